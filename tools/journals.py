@@ -10,7 +10,7 @@ import hashlib
 import os
 import struct
 
-from trees import JOURNAL, OWN_DIRECTORY, write_tree
+from trees import JOURNAL, RUN_DIRECTORY, write_tree
 
 HEAD = "relmove journal 3"
 # The words of a journal's first lines, but for the stage, which follows them.
@@ -84,7 +84,7 @@ def inode_at(path):
 def origin_of(top):
     """What the journal in a folder has to say of where it is."""
     path = f"{top}/{JOURNAL}"
-    inodes = os.stat(top).st_ino, inode_at(path), inode_at(f"{top}/{OWN_DIRECTORY}")
+    inodes = os.stat(top).st_ino, inode_at(path), inode_at(f"{top}/{RUN_DIRECTORY}")
     return dict(zip(ORIGIN, (*inodes, os.lstat(path).st_uid, made_at(path))))
 
 

@@ -9,8 +9,8 @@ ARGUMENTS = CRATES / "relmove_lib/src/arguments.rt"
 PROGRAM = CRATES / "relmove_lib/src/program.rt"
 
 OPTION = re.compile(r"--[a-z-]+")
-# The first line of an option in the help: the option, and what it does.
-LISTED = re.compile(r"  (--[a-z-]*) *(.*)")
+# The first line of an option in the help: the option, the word after it, and what it does.
+LISTED = re.compile(r"  (--[a-z-]*)(?: ([A-Z]+))? *(.*)")
 
 # What the help only has in its usage.
 IN_THE_USAGE = {"--help": "print the help", "--version": "print the version"}
@@ -18,7 +18,7 @@ IN_THE_USAGE = {"--help": "print the help", "--version": "print the version"}
 
 def constant(path, name):
     """The text of a constant of a source file."""
-    return re.search(rf'^(?:pub )?const {name}: &str = "([^"]*)";$', path.read_text(), re.M)[1]
+    return re.search(rf'^(?:pub )?const {name}: &str =\s+"([^"]*)";$', path.read_text(), re.M)[1]
 
 
 def usages():
@@ -43,10 +43,16 @@ def options():
     for line in option_lines():
         if first := LISTED.fullmatch(line):
             name = first[1]
-            found[name] = first[2]
+            found[name] = first[3]
         else:
             found[name] = f"{found[name]} {line.strip()}".strip()
     return {**found, **IN_THE_USAGE}
+
+
+def with_value():
+    """The options with a word after them, each with what the help calls this word."""
+    listed = (LISTED.fullmatch(line) for line in option_lines())
+    return {it[1]: it[2] for it in listed if it and it[2]}
 
 
 def together():
@@ -54,10 +60,15 @@ def together():
     return [set(OPTION.findall(form)) for usage in usages() for form in usage.split(" | ")]
 
 
+def repeated():
+    """The options that a call may have more than once."""
+    return set(re.findall(r"\[(--[a-z-]+)[^]]*\]\.\.\.", constant(REPORT, "USAGE")))
+
+
 def apart(option):
-    """The options that no form of the call has together with this one, and itself."""
+    """The options that no form of the call has together with this one, and itself if a call has it once."""
     beside = {it for form in together() if option in form for it in form}
-    return [it for it in options() if it == option or it != "--" and it not in beside]
+    return [it for it in options() if it == option and it not in repeated() or it != "--" and it not in beside]
 
 
 def accepted():

@@ -5,6 +5,8 @@ import collections
 import ctypes
 import ctypes.util
 import functools
+import html
+import html.entities
 import html.parser
 import os
 import re
@@ -59,6 +61,19 @@ Link = collections.namedtuple("Link", "place plain_place ends_in_slash")
 for name in ("attrfind_tolerant", "locatestarttagend_tolerant"):
     pattern = getattr(html.parser, name)
     setattr(html.parser, name, re.compile(pattern.pattern, pattern.flags & ~re.UNICODE | re.ASCII))
+
+
+# A character reference, with the byte after it if that is `=`. Before `=`, a letter or a digit, a name in an attribute has
+# to end in a semicolon. Not each version of Python knows this.
+REFERENCE = re.compile(r"&(?:#[0-9]+|#[xX][0-9a-fA-F]+|[a-zA-Z][a-zA-Z0-9]*)[;=]?")
+
+
+def unescaped(value):
+    """The value of an attribute, with the characters of its references."""
+    return REFERENCE.sub(lambda it: html.unescape(it[0]) if it[0][1] == "#" or it[0][1:] in html.entities.html5 else it[0], value)
+
+
+html.parser.unescape = unescaped
 
 
 class PageTags(Tags):

@@ -12,9 +12,9 @@ JOURNAL, NEW_JOURNAL, SPARE = ".relmove", ".relmove-journal", ".relmove-spare"
 # The file by whose owner a call knows who calls.
 CALLER = ".relmove-caller"
 # The directory of the run's own, and the file there of who ends a run.
-OWN_DIRECTORY, END = ".relmove-run", ".relmove-run/end"
+RUN_DIRECTORY, END = ".relmove-run", ".relmove-run/end"
 # The files of the run's own that have no text of a page: the journal, the next one, one that keeps room for it, and those two.
-OWN_FILES = (JOURNAL, NEW_JOURNAL, SPARE, CALLER, END)
+RUN_FILES = (JOURNAL, NEW_JOURNAL, SPARE, CALLER, END)
 # How many seconds a call may take.
 LONGEST = 20
 
@@ -93,7 +93,7 @@ def move_words(top, moves, *options):
 
 def is_between(path):
     """Whether a path is a staging name, or below one."""
-    return path.startswith(f"{OWN_DIRECTORY}/") and path != END
+    return path.startswith(f"{RUN_DIRECTORY}/") and path != END
 
 
 def is_own(path):
@@ -103,4 +103,4 @@ def is_own(path):
 
 def without_left(tree):
     """A tree without what a run leaves that can remove nothing: its files that aren't texts of pages, and its directory."""
-    return {path: it for path, it in tree.items() if path not in OWN_FILES and path != OWN_DIRECTORY}
+    return {path: it for path, it in tree.items() if path not in RUN_FILES and path != RUN_DIRECTORY}

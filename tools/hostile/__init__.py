@@ -9,15 +9,15 @@ user, a mount or a tool of the system are left out where that isn't to be had, a
 """
 
 from common import Tally
-from hostile import copies, disks, exchanges, foreign, neighbours, odd_files, others, output, own_files, pages, paths, readers
+from hostile import copies, disks, exchanges, foreign, neighbours, odd_files, others, output, run_files, pages, paths, readers
 from hostile import runs
 from hostile.bench import Bench, LeftOut
 
 ROWS = [
-    own_files.own_files_are_new,
-    own_files.staging_names_are_new,
-    own_files.own_names_are_new,
-    own_files.left_files_are_removed,
+    run_files.run_files_are_new,
+    run_files.staging_names_are_new,
+    run_files.reserved_names_are_new,
+    run_files.left_files_are_removed,
     foreign.own_journal_is_believed,
     foreign.foreign_journals_are_refused,
     foreign.links_are_not_followed,
@@ -35,7 +35,7 @@ ROWS = [
     runs.runs_exclude_ends,
     runs.lock_is_before_reading,
     runs.readers_are_told,
-    own_files.strangers_stay,
+    run_files.strangers_stay,
     paths.names_are_asked_for,
     paths.longest_paths_are_asked_for,
     paths.directories_are_searched,
@@ -50,7 +50,7 @@ ROWS = [
     disks.power_may_go_from_a_directory,
     disks.power_may_go_on_ext4,
     odd_files.emptied_directories_may_stay,
-    own_files.own_names_do_not_move,
+    run_files.reserved_names_do_not_move,
     odd_files.odd_files_are_passed_over,
     odd_files.devices_are_passed_over,
     others.directories_stay_directories,
@@ -74,7 +74,7 @@ ROWS = [
     output.words_are_true,
     disks.undo_needs_no_room,
     odd_files.masks_do_not_matter,
-    own_files.left_names_are_mentioned,
+    run_files.left_names_are_mentioned,
     paths.climbing_links_are_not_asked_for,
     disks.other_devices_are_found,
 ]

@@ -11,7 +11,7 @@ from hostile.bench import MOVE, PAIR, LeftOut, begin_pair, ends_whole, mounted
 from hostile.runs import first_placing
 from hostile.stopped import ENDS, begin_stopped, faults_of_end
 from journals import made_at
-from trees import JOURNAL, OWN_DIRECTORY, difference, tree_of, write_site
+from trees import JOURNAL, RUN_DIRECTORY, difference, tree_of, write_site
 
 # How many new files may be made to get one with an inode that was another file's.
 MOST_FILES = 1000
@@ -70,7 +70,7 @@ def unpacked_journals_are_refused(at):
 
 
 # What a journal knows by its inode, and what of it is in ROOT.
-KNOWN = ("R", f"R/{OWN_DIRECTORY}", f"R/{JOURNAL}")
+KNOWN = ("R", f"R/{RUN_DIRECTORY}", f"R/{JOURNAL}")
 
 
 def packed(place):

@@ -8,7 +8,7 @@ import time
 from common import told
 from hostile.bench import AS_NOBODY, MOVE, NOBODY, OTHER, PAIR, PAIR_MOVED, ends_with, has_only, need_root
 from hostile.users import FOREIGN, TURNS, Beside, done_by_other, plain
-from trees import JOURNAL, NEW_JOURNAL, OWN_DIRECTORY
+from trees import JOURNAL, NEW_JOURNAL, RUN_DIRECTORY
 
 # How many seconds the other user waits at most before a race.
 LONGEST_WAIT = 0.03
@@ -43,15 +43,15 @@ def put_link(own):
 def exchange(top, put):
     """Takes the run's directory away, if it is there, and puts something in its place."""
     with contextlib.suppress(FileNotFoundError):
-        os.rename(top / OWN_DIRECTORY, top / "away")
-    put(top / OWN_DIRECTORY)
+        os.rename(top / RUN_DIRECTORY, top / "away")
+    put(top / RUN_DIRECTORY)
     return True
 
 
 def rename_over(top, _):
     """Renames files over all that has a name of a run's own, but for the journals, which anybody can remove there."""
     listed = [it for it in os.listdir(top) if it.startswith(JOURNAL) and it not in (JOURNAL, NEW_JOURNAL)]
-    for name in [*listed, *(f"{OWN_DIRECTORY}/{it}" for it in range(1, 9))]:
+    for name in [*listed, *(f"{RUN_DIRECTORY}/{it}" for it in range(1, 9))]:
         (top / "mine").write_text(FOREIGN)
         with contextlib.suppress(OSError):
             os.rename(top / "mine", top / name)
@@ -60,7 +60,7 @@ def rename_over(top, _):
 
 def exchange_later(top, put, seconds):
     """Exchanges the run's directory so many seconds after it came."""
-    if not os.path.lexists(top / OWN_DIRECTORY):
+    if not os.path.lexists(top / RUN_DIRECTORY):
         return False
     time.sleep(seconds)
     return exchange(top, put)
@@ -134,7 +134,7 @@ def remove_foreign(at):
         elif path.parent.lstat().st_uid == OTHER:
             path.rename(away / path.name)
     if away.exists():
-        away.rename(at.top / OWN_DIRECTORY)
+        away.rename(at.top / RUN_DIRECTORY)
 
 
 def is_directory(path):

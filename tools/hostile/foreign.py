@@ -8,7 +8,7 @@ import shutil
 from common import told
 from hostile.stopped import ENDS, PARTS, begin_stopped, faults_of_end, more, other, write_stopped
 from journals import digest_of, end_of, line, origin_of
-from trees import END, JOURNAL, NEW_JOURNAL, OWN_DIRECTORY, difference, without_left
+from trees import END, JOURNAL, NEW_JOURNAL, RUN_DIRECTORY, difference, without_left
 
 
 def own_journal_is_believed(at):
@@ -31,7 +31,7 @@ FOREIGN = {
     "a file is staged out of the run's directory": other("staged", 0, "note.txt", ".relmove-run/../1"),
     "a file is staged to a name without a number": other("staged", 0, "note.txt", ".relmove-run/x"),
     "a file is staged to the file of who ends the run": other("staged", 0, "note.txt", END),
-    "a file is staged to the run's directory": other("staged", 0, "note.txt", OWN_DIRECTORY),
+    "a file is staged to the run's directory": other("staged", 0, "note.txt", RUN_DIRECTORY),
     "a file is staged to a name of version 2": other("staged", 0, "note.txt", ".relmove-1"),
     "a file is staged to the journal": other("staged", 0, "note.txt", JOURNAL),
     "two files are staged to one name": other("staged", 1, "a.md", ".relmove-run/1"),
@@ -48,12 +48,12 @@ FOREIGN = {
     "a file is placed in the run's directory": other("placed", 0, ".relmove-run/1", ".relmove-run/9"),
     "a directory is made below .git": more("made", line("made", ".git/y")),
     "a directory is made above the root": more("made", line("made", "../y")),
-    "a directory is made at the run's": more("made", line("made", OWN_DIRECTORY)),
+    "a directory is made at the run's": more("made", line("made", RUN_DIRECTORY)),
     "a directory is made at a staging name": more("made", line("made", ".relmove-run/9")),
     "a directory is made below .git in one that moves": more("made", line("made", ".relmove-run/1/.git/y")),
     "a directory below .git is emptied": more("emptied", line("emptied", ".git/hooks")),
     "a directory above the root is emptied": more("emptied", line("emptied", "../out")),
-    "the run's directory is emptied": more("emptied", line("emptied", OWN_DIRECTORY)),
+    "the run's directory is emptied": more("emptied", line("emptied", RUN_DIRECTORY)),
     "a new text has a plain path": other("text", 0, "a.md", *digest_of(b"")),
     "a new text is below a directory": other("text", 0, "x/.relmove-run/3", *digest_of(b"")),
     "a new text has no number": other("text", 0, ".relmove-run/y", *digest_of(b"")),
@@ -100,9 +100,9 @@ def own_directory_is_no_link(at):
     """2: If `.relmove-run` is a symbolic link, nothing changes where it leads, whichever inode the journal says."""
     for stage, word, trust, follows in itertools.product(STAGES, ("--resume", "--undo"), TRUSTS, (False, True)):
         begin_stopped(at, stage)
-        os.rename(at.top / OWN_DIRECTORY, at.case / "out/run")
-        (at.top / OWN_DIRECTORY).symlink_to("../out/run")
-        write_stopped(at, stage, origin={"run": os.stat(at.top / OWN_DIRECTORY, follow_symlinks=follows).st_ino})
+        os.rename(at.top / RUN_DIRECTORY, at.case / "out/run")
+        (at.top / RUN_DIRECTORY).symlink_to("../out/run")
+        write_stopped(at, stage, origin={"run": os.stat(at.top / RUN_DIRECTORY, follow_symlinks=follows).st_ino})
         before = at.beside()
         done = at.call(word, *trust, "R")
         faults = difference(at.beside(), before)
@@ -123,14 +123,14 @@ def exchanged_directories_stop(at):
     for word, wanted in ENDS:
         begin_stopped(at)
         own = at.case / "own"
-        os.rename(at.top / OWN_DIRECTORY, own)
-        shutil.copytree(own, at.top / OWN_DIRECTORY)
+        os.rename(at.top / RUN_DIRECTORY, own)
+        shutil.copytree(own, at.top / RUN_DIRECTORY)
         before, done = without_left(at.tree()), at.call(word, "R")
         yield from (f"{word}: {it}" for it in difference(without_left(at.tree()), before))
-        if done.status != 3 or OWN_DIRECTORY not in told(done):
+        if done.status != 3 or RUN_DIRECTORY not in told(done):
             yield f"{word}: {told(done)}"
-        shutil.rmtree(at.top / OWN_DIRECTORY)
-        os.rename(own, at.top / OWN_DIRECTORY)
+        shutil.rmtree(at.top / RUN_DIRECTORY)
+        os.rename(own, at.top / RUN_DIRECTORY)
         yield from faults_of_end(at, f"{word}, with its own directory", word, wanted)
 
 

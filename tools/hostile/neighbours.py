@@ -9,7 +9,7 @@ from hostile.bench import AS_NOBODY, AS_OTHER, MOVE, NOBODY, OTHER, PAIR, PAIR_M
 from hostile.runs import first_placing
 from hostile.stopped import begin_stopped, other, write_stopped
 from hostile.users import FOREIGN, SECRET, done_by_other, plain
-from trees import JOURNAL, NEW_JOURNAL, OWN_DIRECTORY, difference
+from trees import JOURNAL, NEW_JOURNAL, RUN_DIRECTORY, difference
 
 # The calls that end a run, and the options with which root may end one of another user.
 ENDS = ("--resume", "--undo")
@@ -25,7 +25,7 @@ def begin_others_run(at, first):
 def begin_planted(at, _):
     """Begins a case with a journal that the other user wrote by hand, which asks for a file that only NOBODY can read."""
     begin_stopped(at, owner=OTHER)
-    (at.top / OWN_DIRECTORY / "1").unlink()
+    (at.top / RUN_DIRECTORY / "1").unlink()
     (at.top / "private").mkdir(0o700)
     (at.top / "private/key.txt").write_text(SECRET)
     give(at.top / "private", NOBODY)

@@ -8,7 +8,7 @@ import struct
 from common import told
 from hostile.bench import MOVE, NOBODY, PAIR, PAIR_MOVED, LeftOut, begin_pair, need_root
 from journals import stage_of
-from trees import OWN_FILES, is_between
+from trees import RUN_FILES, is_between
 
 def owners_keep_their_bytes(at):
     """5: No file of root with a set-user-ID or set-group-ID bit ever has another user's bytes."""
@@ -45,7 +45,7 @@ def private_pages_stay_private(at):
     for way in ("held-after", "held-before"):
         for number, call in at.holds(begin, *MOVE, way=way, umask=0):
             for path, (mode, content) in at.tree().items():
-                if content is not None and path not in OWN_FILES and mode & 0o077:
+                if content is not None and path not in RUN_FILES and mode & 0o077:
                     yield f"{way}, call {number}: {path} has mode {mode:o}"
             call.end()
 
@@ -106,7 +106,7 @@ def edit_all(at):
     """Adds a line to each page below the root, also to an old text at its staging name. Gives the new bytes of each."""
     edits = {}
     for path, text in at.texts().items():
-        if path not in OWN_FILES and (not is_between(path) or text in PAIR.values()):
+        if path not in RUN_FILES and (not is_between(path) or text in PAIR.values()):
             edits[path] = f"{text}edited at {path}\n"
             (at.top / path).write_text(edits[path])
     return edits
@@ -140,7 +140,7 @@ def edit_plain(at, replaces):
     """Edits each page at a plain path, in its place or by another file."""
     edits = {}
     for path, text in at.texts().items():
-        if not is_between(path) and path not in OWN_FILES:
+        if not is_between(path) and path not in RUN_FILES:
             edits[path] = f"{text}edited at {path}\n"
             where = at.case / "edited" if replaces else at.top / path
             where.write_text(edits[path])

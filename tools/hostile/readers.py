@@ -7,7 +7,7 @@ import stat
 from common import told
 from hostile.bench import AS_NOBODY, MOVE, NOBODY, OTHER, ends_with, need_root
 from hostile.users import SECRET, TURNS, Beside, done_by_other
-from trees import OWN_DIRECTORY
+from trees import RUN_DIRECTORY
 
 # A directory that only its owner may search, with files that everybody may read, and moves in it.
 PRIVATE = {"a.md": "[key](private/key.txt)\n", "private/key.txt": SECRET, "private/p.md": f"[a](../a.md) {SECRET}"}
@@ -43,13 +43,13 @@ def staged_files_stay_private(at):
         tree = at.tree()
         if done_by_other(reads_secret, at.top, [path for path in tree if stat.S_ISREG(tree[path][0])]):
             yield f"held after call {number}: the other user reads it"
-        if stat.S_IMODE(tree.get(OWN_DIRECTORY, (0, None))[0]) & 0o077:
-            yield f"held after call {number}: {OWN_DIRECTORY} has mode {tree[OWN_DIRECTORY][0]:o}"
+        if stat.S_IMODE(tree.get(RUN_DIRECTORY, (0, None))[0]) & 0o077:
+            yield f"held after call {number}: {RUN_DIRECTORY} has mode {tree[RUN_DIRECTORY][0]:o}"
     if call.end().status != 0 or "private/k/key.txt" not in at.texts():
         yield f"the run doesn't end: {at.texts()}"
     for turn in range(TURNS):
         begin_private(at)
-        with Beside(reads_secret, at.top, [f"{OWN_DIRECTORY}/{it}" for it in range(1, 8)]) as beside:
+        with Beside(reads_secret, at.top, [f"{RUN_DIRECTORY}/{it}" for it in range(1, 8)]) as beside:
             done = at.call(*PRIVATE_MOVE, **AS_NOBODY)
         if done.status != 0 or beside.is_done:
             yield f"turn {turn}: {'the other user reads it' if beside.is_done else told(done)}"

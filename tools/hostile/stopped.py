@@ -6,7 +6,7 @@ import os
 from common import told
 from hostile.bench import BESIDE, ends_with, give
 from journals import digest_of, line, write_journal
-from trees import OWN_DIRECTORY
+from trees import RUN_DIRECTORY
 
 # A run that stopped by hand: its files before the moves, where it stopped, and after the moves.
 OLD_PAGE, NEW_PAGE, NOTE = "[n](note.txt)\n", "[n](x/note.txt)\n", "a note\n"
@@ -29,7 +29,7 @@ PARTS = {
 def begin_stopped(at, stage="placing", owner=0, **parts):
     """Begins a case with a run of a user that stopped, where parts of the journal are others."""
     at.begin(STOPPED, {**BESIDE, "out/secret": "a secret\n"})
-    os.chmod(at.top / OWN_DIRECTORY, 0o700)
+    os.chmod(at.top / RUN_DIRECTORY, 0o700)
     (at.top / "x").mkdir()
     (at.top / ".git/hooks").mkdir(parents=True)
     (at.top / "esc").symlink_to("../out")

@@ -1,7 +1,7 @@
 //! The answer to each line.
 
 use crate::call::Call;
-use crate::refusal::Refusal;
+use crate::refusal::NoAnswer;
 use relative_path::{Component, PathExt, RelativePath, RelativePathBuf};
 use std::alloc::{AllocError, Global};
 use std::path::Path;
@@ -10,7 +10,7 @@ use std::path::Path;
 ///
 /// The calls are in five groups. Each is a `match` that passes other names on to the next group, since one
 /// `match` of all thirty-four took a quarter of the crate's proof.
-pub fn answer(alloc: Global, line: &str) -> Result<String, Refusal> {
+pub fn answer(alloc: Global, line: &str) -> Result<String, NoAnswer> {
     let call = Call::parse(alloc, line)?;
     match call.command {
         "components" => components(alloc, &call),
@@ -27,7 +27,7 @@ pub fn answer(alloc: Global, line: &str) -> Result<String, Refusal> {
 }
 
 // The calls from and to platform paths, or one of those below.
-fn answer_of_platform_paths(alloc: Global, call: &Call<'_>) -> Result<String, Refusal> {
+fn answer_of_platform_paths(alloc: Global, call: &Call<'_>) -> Result<String, NoAnswer> {
     match call.command {
         "from_path" => from_path(alloc, call),
         "from_path_owned" => from_path_owned(alloc, call),
@@ -39,7 +39,7 @@ fn answer_of_platform_paths(alloc: Global, call: &Call<'_>) -> Result<String, Re
 }
 
 // The calls that give parts of a path or tell how it begins and ends, or one of those below.
-fn answer_of_parts(alloc: Global, call: &Call<'_>) -> Result<String, Refusal> {
+fn answer_of_parts(alloc: Global, call: &Call<'_>) -> Result<String, NoAnswer> {
     match call.command {
         "parent" => parent(alloc, call),
         "file_name" => file_name(alloc, call),
@@ -54,7 +54,7 @@ fn answer_of_parts(alloc: Global, call: &Call<'_>) -> Result<String, Refusal> {
 }
 
 // The calls that make a path of others, or one of those below.
-fn answer_of_new_paths(alloc: Global, call: &Call<'_>) -> Result<String, Refusal> {
+fn answer_of_new_paths(alloc: Global, call: &Call<'_>) -> Result<String, NoAnswer> {
     match call.command {
         "join" => join(alloc, call),
         "with_file_name" => with_file_name(alloc, call),
@@ -67,7 +67,7 @@ fn answer_of_new_paths(alloc: Global, call: &Call<'_>) -> Result<String, Refusal
 }
 
 // The calls that change a buffer.
-fn answer_of_edits(alloc: Global, call: &Call<'_>) -> Result<String, Refusal> {
+fn answer_of_edits(alloc: Global, call: &Call<'_>) -> Result<String, NoAnswer> {
     match call.command {
         "push" => push(alloc, call),
         "pop" => pop(alloc, call),
@@ -75,24 +75,24 @@ fn answer_of_edits(alloc: Global, call: &Call<'_>) -> Result<String, Refusal> {
         "set_extension" => set_extension(alloc, call),
         "extend" => extend(alloc, call),
         "from_paths" => from_paths(alloc, call),
-        _ => Err(Refusal::UnknownCommand),
+        _ => Err(NoAnswer::UnknownCommand),
     }
 }
 
-fn components(alloc: Global, call: &Call<'_>) -> Result<String, Refusal> {
+fn components(alloc: Global, call: &Call<'_>) -> Result<String, NoAnswer> {
     let path = call.one()?;
     let components: Vec<Component<'_>> = RelativePath::new(path).components().collect(alloc)?;
     list(alloc, &components)
 }
 
-fn components_back(alloc: Global, call: &Call<'_>) -> Result<String, Refusal> {
+fn components_back(alloc: Global, call: &Call<'_>) -> Result<String, NoAnswer> {
     let path = call.one()?;
     let components: Vec<Component<'_>> = RelativePath::new(path).components().rev().collect(alloc)?;
     list(alloc, &components)
 }
 
 // After each step, `F` from the front or `B` from the back: the component, and the text that is left.
-fn walk(alloc: Global, call: &Call<'_>) -> Result<String, Refusal> {
+fn walk(alloc: Global, call: &Call<'_>) -> Result<String, NoAnswer> {
     let (path, steps) = call.two()?;
     let mut components = RelativePath::new(path).components();
     let mut shown = Vec::new(alloc);
@@ -100,7 +100,7 @@ fn walk(alloc: Global, call: &Call<'_>) -> Result<String, Refusal> {
         let taken = match step {
             'F' => components.next(),
             'B' => components.next_back(),
-            _ => return Err(Refusal::UnknownStep),
+            _ => return Err(NoAnswer::UnknownStep),
         };
         shown.push(match taken {
             Some(component) => show(alloc, component)?,
@@ -111,126 +111,126 @@ fn walk(alloc: Global, call: &Call<'_>) -> Result<String, Refusal> {
     Ok(shown.join(alloc, "\t")?)
 }
 
-fn iter(alloc: Global, call: &Call<'_>) -> Result<String, Refusal> {
+fn iter(alloc: Global, call: &Call<'_>) -> Result<String, NoAnswer> {
     let path = call.one()?;
     let texts: Vec<&str> = RelativePath::new(path).iter().collect(alloc)?;
     Ok(texts.join(alloc, "\t")?)
 }
 
-fn eq(alloc: Global, call: &Call<'_>) -> Result<String, Refusal> {
+fn eq(alloc: Global, call: &Call<'_>) -> Result<String, NoAnswer> {
     let (path, other) = call.two()?;
     let equal = RelativePath::new(path) == RelativePath::new(other);
     Ok(equal.to_string(alloc)?)
 }
 
-fn cmp(alloc: Global, call: &Call<'_>) -> Result<String, Refusal> {
+fn cmp(alloc: Global, call: &Call<'_>) -> Result<String, NoAnswer> {
     let (path, other) = call.two()?;
     let order = RelativePath::new(path).cmp(&RelativePath::new(other));
     Ok(format!(in alloc; "{order:?}")?)
 }
 
-fn display(alloc: Global, call: &Call<'_>) -> Result<String, Refusal> {
+fn display(alloc: Global, call: &Call<'_>) -> Result<String, NoAnswer> {
     let path = call.one()?;
     Ok(RelativePath::new(path).to_string(alloc)?)
 }
 
-fn debug(alloc: Global, call: &Call<'_>) -> Result<String, Refusal> {
+fn debug(alloc: Global, call: &Call<'_>) -> Result<String, NoAnswer> {
     let path = call.one()?;
     let path = RelativePath::new(path);
     Ok(format!(in alloc; "{path:?}")?)
 }
 
-fn width(alloc: Global, call: &Call<'_>) -> Result<String, Refusal> {
+fn width(alloc: Global, call: &Call<'_>) -> Result<String, NoAnswer> {
     let (path, width) = call.two()?;
     let path = RelativePath::new(path);
-    let width: usize = width.parse().map_err(|_| Refusal::NotAWidth)?;
+    let width: usize = width.parse().map_err(|_| NoAnswer::NotAWidth)?;
     Ok(format!(in alloc; "{path:width$}")?)
 }
 
-fn from_path(alloc: Global, call: &Call<'_>) -> Result<String, Refusal> {
+fn from_path(alloc: Global, call: &Call<'_>) -> Result<String, NoAnswer> {
     let path = call.one()?;
     Ok(RelativePath::from_path(Path::new(path))?.to_string(alloc)?)
 }
 
-fn from_path_owned(alloc: Global, call: &Call<'_>) -> Result<String, Refusal> {
+fn from_path_owned(alloc: Global, call: &Call<'_>) -> Result<String, NoAnswer> {
     let path = call.one()?;
     text_of(alloc, &RelativePathBuf::from_path(alloc, Path::new(path))?)
 }
 
-fn to_path(alloc: Global, call: &Call<'_>) -> Result<String, Refusal> {
+fn to_path(alloc: Global, call: &Call<'_>) -> Result<String, NoAnswer> {
     let (path, base) = call.two()?;
     let path = RelativePath::new(path).to_path(alloc, Path::new(base))?;
     Ok(path.into_string())
 }
 
-fn to_logical_path(alloc: Global, call: &Call<'_>) -> Result<String, Refusal> {
+fn to_logical_path(alloc: Global, call: &Call<'_>) -> Result<String, NoAnswer> {
     let (path, base) = call.two()?;
     let path = RelativePath::new(path).to_logical_path(alloc, Path::new(base))?;
     Ok(path.into_string())
 }
 
-fn relative_to(alloc: Global, call: &Call<'_>) -> Result<String, Refusal> {
+fn relative_to(alloc: Global, call: &Call<'_>) -> Result<String, NoAnswer> {
     let (path, root) = call.two()?;
     text_of(alloc, &Path::new(path).relative_to(alloc, Path::new(root))?)
 }
 
-fn parent(alloc: Global, call: &Call<'_>) -> Result<String, Refusal> {
+fn parent(alloc: Global, call: &Call<'_>) -> Result<String, NoAnswer> {
     let path = call.one()?;
     let parent = RelativePath::new(path).parent();
     maybe(alloc, parent.map(|parent| parent.as_str()))
 }
 
-fn file_name(alloc: Global, call: &Call<'_>) -> Result<String, Refusal> {
+fn file_name(alloc: Global, call: &Call<'_>) -> Result<String, NoAnswer> {
     let path = call.one()?;
     maybe(alloc, RelativePath::new(path).file_name())
 }
 
-fn file_stem(alloc: Global, call: &Call<'_>) -> Result<String, Refusal> {
+fn file_stem(alloc: Global, call: &Call<'_>) -> Result<String, NoAnswer> {
     let path = call.one()?;
     maybe(alloc, RelativePath::new(path).file_stem())
 }
 
-fn extension(alloc: Global, call: &Call<'_>) -> Result<String, Refusal> {
+fn extension(alloc: Global, call: &Call<'_>) -> Result<String, NoAnswer> {
     let path = call.one()?;
     maybe(alloc, RelativePath::new(path).extension())
 }
 
-fn strip_prefix(alloc: Global, call: &Call<'_>) -> Result<String, Refusal> {
+fn strip_prefix(alloc: Global, call: &Call<'_>) -> Result<String, NoAnswer> {
     let (path, base) = call.two()?;
     let rest = RelativePath::new(path).strip_prefix(RelativePath::new(base))?;
     Ok(rest.as_str().to_string(alloc)?)
 }
 
-fn starts_with(alloc: Global, call: &Call<'_>) -> Result<String, Refusal> {
+fn starts_with(alloc: Global, call: &Call<'_>) -> Result<String, NoAnswer> {
     let (path, base) = call.two()?;
     let starts = RelativePath::new(path).starts_with(RelativePath::new(base));
     Ok(starts.to_string(alloc)?)
 }
 
-fn ends_with(alloc: Global, call: &Call<'_>) -> Result<String, Refusal> {
+fn ends_with(alloc: Global, call: &Call<'_>) -> Result<String, NoAnswer> {
     let (path, child) = call.two()?;
     let ends = RelativePath::new(path).ends_with(RelativePath::new(child));
     Ok(ends.to_string(alloc)?)
 }
 
-fn is_normalized(alloc: Global, call: &Call<'_>) -> Result<String, Refusal> {
+fn is_normalized(alloc: Global, call: &Call<'_>) -> Result<String, NoAnswer> {
     let path = call.one()?;
     let normalized = RelativePath::new(path).is_normalized();
     Ok(normalized.to_string(alloc)?)
 }
 
-fn join(alloc: Global, call: &Call<'_>) -> Result<String, Refusal> {
+fn join(alloc: Global, call: &Call<'_>) -> Result<String, NoAnswer> {
     let (path, other) = call.two()?;
     let joined = RelativePath::new(path).join(alloc, RelativePath::new(other))?;
     text_of(alloc, &joined)
 }
 
-fn with_file_name(alloc: Global, call: &Call<'_>) -> Result<String, Refusal> {
+fn with_file_name(alloc: Global, call: &Call<'_>) -> Result<String, NoAnswer> {
     let (path, name) = call.two()?;
     text_of(alloc, &RelativePath::new(path).with_file_name(alloc, name)?)
 }
 
-fn with_extension(alloc: Global, call: &Call<'_>) -> Result<String, Refusal> {
+fn with_extension(alloc: Global, call: &Call<'_>) -> Result<String, NoAnswer> {
     let (path, extension) = call.two()?;
     text_of(
         alloc,
@@ -238,81 +238,81 @@ fn with_extension(alloc: Global, call: &Call<'_>) -> Result<String, Refusal> {
     )
 }
 
-fn join_normalized(alloc: Global, call: &Call<'_>) -> Result<String, Refusal> {
+fn join_normalized(alloc: Global, call: &Call<'_>) -> Result<String, NoAnswer> {
     let (path, other) = call.two()?;
     let normal = RelativePath::new(path).join_normalized(alloc, RelativePath::new(other))?;
     text_of(alloc, &normal)
 }
 
-fn normalize(alloc: Global, call: &Call<'_>) -> Result<String, Refusal> {
+fn normalize(alloc: Global, call: &Call<'_>) -> Result<String, NoAnswer> {
     let path = call.one()?;
     text_of(alloc, &RelativePath::new(path).normalize(alloc)?)
 }
 
-fn relative(alloc: Global, call: &Call<'_>) -> Result<String, Refusal> {
+fn relative(alloc: Global, call: &Call<'_>) -> Result<String, NoAnswer> {
     let (from, to) = call.two()?;
     let way = RelativePath::new(from).relative(alloc, RelativePath::new(to))?;
     text_of(alloc, &way)
 }
 
-fn push(alloc: Global, call: &Call<'_>) -> Result<String, Refusal> {
+fn push(alloc: Global, call: &Call<'_>) -> Result<String, NoAnswer> {
     let (base, path) = call.two()?;
     let mut buf = RelativePathBuf::from_text(alloc, base)?;
     buf.push(RelativePath::new(path))?;
     text_of(alloc, &buf)
 }
 
-fn pop(alloc: Global, call: &Call<'_>) -> Result<String, Refusal> {
+fn pop(alloc: Global, call: &Call<'_>) -> Result<String, NoAnswer> {
     let path = call.one()?;
     let mut buf = RelativePathBuf::from_text(alloc, path)?;
     let popped = buf.pop();
     told(alloc, popped, &buf)
 }
 
-fn set_file_name(alloc: Global, call: &Call<'_>) -> Result<String, Refusal> {
+fn set_file_name(alloc: Global, call: &Call<'_>) -> Result<String, NoAnswer> {
     let (path, name) = call.two()?;
     let mut buf = RelativePathBuf::from_text(alloc, path)?;
     buf.set_file_name(name)?;
     text_of(alloc, &buf)
 }
 
-fn set_extension(alloc: Global, call: &Call<'_>) -> Result<String, Refusal> {
+fn set_extension(alloc: Global, call: &Call<'_>) -> Result<String, NoAnswer> {
     let (path, extension) = call.two()?;
     let mut buf = RelativePathBuf::from_text(alloc, path)?;
     let set = buf.set_extension(extension)?;
     told(alloc, set, &buf)
 }
 
-fn extend(alloc: Global, call: &Call<'_>) -> Result<String, Refusal> {
+fn extend(alloc: Global, call: &Call<'_>) -> Result<String, NoAnswer> {
     let (path, paths) = call.one_and_more()?;
     let mut buf = RelativePathBuf::from_text(alloc, path)?;
     buf.extend(paths.iter().map(|path| RelativePath::new(path)))?;
     text_of(alloc, &buf)
 }
 
-fn from_paths(alloc: Global, call: &Call<'_>) -> Result<String, Refusal> {
+fn from_paths(alloc: Global, call: &Call<'_>) -> Result<String, NoAnswer> {
     let paths = call.all().iter().map(|path| RelativePath::new(path));
     text_of(alloc, &RelativePathBuf::from_paths(alloc, paths)?)
 }
 
-fn text_of(alloc: Global, buf: &RelativePathBuf) -> Result<String, Refusal> {
+fn text_of(alloc: Global, buf: &RelativePathBuf) -> Result<String, NoAnswer> {
     Ok(buf.as_relative_path().as_str().to_string(alloc)?)
 }
 
 // What an edit returned, and the text then.
-fn told(alloc: Global, returned: bool, buf: &RelativePathBuf) -> Result<String, Refusal> {
+fn told(alloc: Global, returned: bool, buf: &RelativePathBuf) -> Result<String, NoAnswer> {
     let text = buf.as_relative_path().as_str();
     Ok(format!(in alloc; "{returned}\t{text}")?)
 }
 
-fn maybe(alloc: Global, text: Option<&str>) -> Result<String, Refusal> {
+fn maybe(alloc: Global, text: Option<&str>) -> Result<String, NoAnswer> {
     match text {
         Some(text) => Ok(format!(in alloc; "some {text}")?),
         None => Ok("none".to_string(alloc)?),
     }
 }
 
-fn list(alloc: Global, components: &[Component<'_>]) -> Result<String, Refusal> {
+fn list(alloc: Global, components: &[Component<'_>]) -> Result<String, NoAnswer> {
     let shown: Vec<String> = components
         .iter()
         .map(|component| show(alloc, *component))

@@ -1,6 +1,6 @@
 //! The call that a line names.
 
-use crate::refusal::Refusal;
+use crate::refusal::NoAnswer;
 use std::alloc::{AllocError, Global};
 
 /// A command and its arguments.
@@ -20,26 +20,26 @@ impl<'a> Call<'a> {
     }
 
     /// The argument, if there is just one.
-    pub fn one(&self) -> Result<&'a str, Refusal> {
+    pub fn one(&self) -> Result<&'a str, NoAnswer> {
         match self.arguments.as_slice() {
             [only] => Ok(*only),
-            _ => Err(Refusal::WrongFieldCount),
+            _ => Err(NoAnswer::WrongFieldCount),
         }
     }
 
     /// The arguments, if there are just two.
-    pub fn two(&self) -> Result<(&'a str, &'a str), Refusal> {
+    pub fn two(&self) -> Result<(&'a str, &'a str), NoAnswer> {
         match self.arguments.as_slice() {
             [first, second] => Ok((*first, *second)),
-            _ => Err(Refusal::WrongFieldCount),
+            _ => Err(NoAnswer::WrongFieldCount),
         }
     }
 
     /// The first argument and those after it, if there is one.
-    pub fn one_and_more(&self) -> Result<(&'a str, &[&'a str]), Refusal> {
+    pub fn one_and_more(&self) -> Result<(&'a str, &[&'a str]), NoAnswer> {
         match self.arguments.split_first() {
             Some((first, more)) => Ok((*first, more)),
-            None => Err(Refusal::WrongFieldCount),
+            None => Err(NoAnswer::WrongFieldCount),
         }
     }
 

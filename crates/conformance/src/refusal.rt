@@ -6,7 +6,7 @@ use std::fmt;
 
 /// Why a line has no result.
 #[derive(Drop)]
-pub enum Refusal {
+pub enum NoAnswer {
     UnknownCommand,
     WrongFieldCount,
     UnknownStep,
@@ -17,47 +17,47 @@ pub enum Refusal {
     OutOfMemory,
 }
 
-impl fmt::Display for Refusal {
+impl fmt::Display for NoAnswer {
     fn fmt<W: fmt::Write>(&self, f: &mut fmt::Formatter<W>) -> fmt::Result {
         match self {
-            Refusal::UnknownCommand => f.write_str("unknown command"),
-            Refusal::WrongFieldCount => f.write_str("wrong number of fields"),
-            Refusal::UnknownStep => f.write_str("unknown step"),
-            Refusal::NotAWidth => f.write_str("not a width"),
-            Refusal::StripPrefix => f.write_str("StripPrefixError"),
-            Refusal::FromPath(error) => error.fmt(f),
-            Refusal::RelativeTo(error) => error.fmt(f),
-            Refusal::OutOfMemory => f.write_str("out of memory"),
+            NoAnswer::UnknownCommand => f.write_str("unknown command"),
+            NoAnswer::WrongFieldCount => f.write_str("wrong number of fields"),
+            NoAnswer::UnknownStep => f.write_str("unknown step"),
+            NoAnswer::NotAWidth => f.write_str("not a width"),
+            NoAnswer::StripPrefix => f.write_str("StripPrefixError"),
+            NoAnswer::FromPath(error) => error.fmt(f),
+            NoAnswer::RelativeTo(error) => error.fmt(f),
+            NoAnswer::OutOfMemory => f.write_str("out of memory"),
         }
     }
 }
 
-impl From<FromPathError> for Refusal {
-    fn from(error: FromPathError) -> Refusal {
-        Refusal::FromPath(error)
+impl From<FromPathError> for NoAnswer {
+    fn from(error: FromPathError) -> NoAnswer {
+        NoAnswer::FromPath(error)
     }
 }
 
-impl From<RelativeToError> for Refusal {
-    fn from(error: RelativeToError) -> Refusal {
-        Refusal::RelativeTo(error)
+impl From<RelativeToError> for NoAnswer {
+    fn from(error: RelativeToError) -> NoAnswer {
+        NoAnswer::RelativeTo(error)
     }
 }
 
-impl From<StripPrefixError> for Refusal {
-    fn from(_error: StripPrefixError) -> Refusal {
-        Refusal::StripPrefix
+impl From<StripPrefixError> for NoAnswer {
+    fn from(_error: StripPrefixError) -> NoAnswer {
+        NoAnswer::StripPrefix
     }
 }
 
-impl From<AllocError> for Refusal {
-    fn from(_error: AllocError) -> Refusal {
-        Refusal::OutOfMemory
+impl From<AllocError> for NoAnswer {
+    fn from(_error: AllocError) -> NoAnswer {
+        NoAnswer::OutOfMemory
     }
 }
 
-impl<T: Drop> From<AllocFailed<T>> for Refusal {
-    fn from(_failed: AllocFailed<T>) -> Refusal {
-        Refusal::OutOfMemory
+impl<T: Drop> From<AllocFailed<T>> for NoAnswer {
+    fn from(_failed: AllocFailed<T>) -> NoAnswer {
+        NoAnswer::OutOfMemory
     }
 }

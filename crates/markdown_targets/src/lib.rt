@@ -8,7 +8,7 @@ ghost use Rattle.std.specs.Prelude.{map, IfOk};
 ghost use Rattle.std.specs.List.{All};
 ghost use Rattle.markdown_targets.specs.Spans.{IsSpanOf, AreInOrder};
 
-pub use self::span::Span;
+pub use self::span::PageSpan;
 pub use self::target::{LinkTarget, LinkTargets, PassedOver, Quote, TargetKind, WhyPassedOver};
 
 mod finder;

@@ -1,6 +1,6 @@
 //! What is found in a page.
 
-use crate::span::Span;
+use crate::span::PageSpan;
 
 /// What a target belongs to, which says how its text is read.
 #[derive(Clone, Copy, Debug, PartialEq, Eq)]
@@ -30,7 +30,7 @@ pub struct LinkTarget {
     /// What the target belongs to.
     pub kind: TargetKind,
     /// The span of its text, without angle brackets, quotes and title. The span may be empty.
-    pub span: Span,
+    pub span: PageSpan,
 }
 
 /// Why something that looks like a target is passed over.
@@ -48,7 +48,7 @@ pub struct PassedOver {
     /// Why.
     pub why: WhyPassedOver,
     /// The destination, or the name.
-    pub span: Span,
+    pub span: PageSpan,
 }
 
 /// What [`link_targets`](crate::link_targets) finds in a page.

@@ -1,5 +1,5 @@
 //! Pages, and what is found in them.
-use markdown_targets::{Span, link_targets};
+use markdown_targets::{PageSpan, link_targets};
 use std::alloc::Global;
 use std::test::Fail;
 
@@ -14,7 +14,7 @@ mod left_out;
 mod limits;
 
 // Adds the text of a span, after a space. One without bytes is `<>`.
-fn add(texts: &mut String, page: &str, span: Span) -> Result<(), Fail> {
+fn add(texts: &mut String, page: &str, span: PageSpan) -> Result<(), Fail> {
     let text = page.get(span.start..span.end).ok_or("a span")?;
     if !texts.is_empty() {
         texts.push(' ')?;

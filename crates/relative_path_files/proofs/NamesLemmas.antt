@@ -14,7 +14,7 @@ use Rattle.relative_path.specs.Steps.{Step, cur, up, name, is_slash, is_not_empt
 use Rattle.relative_path.proofs.OnLiterals.{relative_path_on_literals}
 use Rattle.relative_path_files.specs.FromTop.{SpellsPlace}
 use Rattle.relative_path_files.specs.Win32.{is_cut, is_reserved, is_trimmed, trimmed, win32_names}
-use Rattle.relative_path_files.specs.Names.{is_nul, is_delete, unix_components, names_device, is_one_of, forks, IfName, IsPlainName}
+use Rattle.relative_path_files.specs.Names.{is_nul, is_delete, unix_names, names_device, is_one_of, forks, IfName, IsPlainName}
 use Rattle.relative_path_files.specs.NameTests.{is_foreign, holds_foreign, ends_in_dot_or_space, is_empty, is_unportable, is_unportable_step}
 
 -- ---- no element passes a test

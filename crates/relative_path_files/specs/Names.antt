@@ -12,8 +12,8 @@ abbrev pub is_nul : ℕ → Bool
 is_nul b = b == 0
 
 -- the components that Unix reads: the text cut at its slashes; none if the text has a NUL
-abbrev pub unix_components : List ℕ → Option (List Step)
-unix_components text = if list_any is_nul text then None else Some (components text)
+abbrev pub unix_names : List ℕ → Option (List Step)
+unix_names text = if list_any is_nul text then None else Some (components text)
 
 -- the byte is 127, a control byte that Windows allows
 abbrev pub is_delete : ℕ → Bool
@@ -59,7 +59,7 @@ forks = codes "..namedfork" ∷ []
 -- Win32 and Unix both read the text as this one name, it has no byte 127, and no list has it
 pub record IsPlainName (text : List ℕ) : Type 0 where
   pub windows : win32_names text ≡ Some (text ∷ [])
-  pub unix : unix_components text ≡ Some (name text ∷ [])
+  pub unix : unix_names text ≡ Some (name text ∷ [])
   pub no_delete : list_any is_delete text ≡ false
   pub no_device : names_device text ≡ false
   pub no_fork : is_one_of forks text ≡ false

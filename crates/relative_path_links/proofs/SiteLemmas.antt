@@ -1,7 +1,8 @@
 -- Links read again after the moves, and the same page by other lists for the same directories.
-use Rattle.std.proofs.Common.{◌≡◌, ◌⊎◌, ℕ, true, false, List, [], ◌∷◌, ◌++◌, length, get_or, drop, Option, None, Some, String, IsNone, inl, inr, refl, sym, ap, ◌∙◌, subst, append-nil, string_bytes, true≢false}
+use Rattle.std.proofs.Common.{◌≡◌, ◌⊎◌, ℕ, ◌<◌, ◌+◌, true, false, List, [], ◌∷◌, ◌++◌, length, get_or, drop, Option, None, Some, String, IsNone, inl, inr, refl, sym, ap, ◌∙◌, subst, append-nil, append_assoc, string_bytes, true≢false}
 use Rattle.std.proofs.Math.Seq.{drop-append_seam}
 use Rattle.std.proofs.lemmas.Bool.{cond_both}
+use Rattle.std.proofs.lemmas.List.{drop_more}
 use Rattle.std.proofs.lemmas.List.Elements.{All-from_recursion, recursion_from_All}
 use Rattle.std.specs.List.{AllByRecursion, AllZip}
 use Rattle.std.specs.declared.alloc.Global.{Global}
@@ -9,7 +10,6 @@ use Rattle.relative_path.specs.Steps.{Step, slash, components, spell}
 use Rattle.relative_path.specs.Walk.{IsSame, place_of}
 use Rattle.relative_path.specs.Unix.{has_root}
 use Rattle.relative_path.specs.Normalizing.{IsNormalTextOf}
-use Rattle.relative_path.specs.RelativePath.{path_components}
 use Rattle.relative_path.specs.Relating.{Leads}
 use Rattle.relative_path.proofs.ForCallers.{IsSame-refl, IsSame-sym, IsSame-trans, IsSame-append_left, IsSame-append_right, IsReachable-same, IsShortestText-same, Leads-same, SpellThemselves-components, has_root-spell, components-trailing_slash}
 use Rattle.relative_path.proofs.OnLiterals.{relative_path_on_literals}
@@ -35,7 +35,7 @@ use Rattle.relative_path_links.specs.Targets.{target_text}
 use Rattle.relative_path_links.specs.Edits.{targets_of, change_text, edit_text, with_edits, is_new, IsSettled}
 use Rattle.relative_path_links.specs.Reading.{HasText}
 use Rattle.relative_path_links.specs.Rewriter.{Moving, moving, AtFile, StillLeads, AtLostFile, with_slash, IsNewPath, IsMovedTarget, LeavesPath, ChangesPath, unknown_change, ChangesBy, HasFileBy, Becomes}
-use Rattle.relative_path_links.specs.Site.{LeadsOn, KeepsLinkBy, KeepsLink, StaysInPlace, StayInPlace, IsRewritten, KeepsLinks, moved_to, AreRewritten, KeepTheirLinks}
+use Rattle.relative_path_links.specs.Site.{ForMovedPage, LeadsOn, KeepsLinkBy, KeepsLink, StaysInPlace, StayInPlace, IsRewritten, KeepsLinks, moved_to, AreRewritten, KeepTheirLinks}
 use Rattle.relative_path_links.proofs.EditsLemmas.{with_edits-same}
 
 -- ---- where a file is, by another list for the same place
@@ -328,7 +328,7 @@ KeepTheirLinks-rewritten finds moves (page ∷ pages) (new ∷ news) ((now, ther
     there,
     (
       normal,
-      KeepsLinks-rewritten finds (moved_to moves (path_components page.path) now) page.text.now new.edits.items new.text is,
+      KeepsLinks-rewritten finds (moved_to moves (components page.path.now) now) page.text.now new.edits.items new.text is,
     ),
   ),
   KeepTheirLinks-rewritten finds moves pages news are,
@@ -339,6 +339,18 @@ pub record SiteSoFar (finds : List ℕ → List Target → Type 0) (moves : List
     (left : List SitePage) (news : List MovedSitePage) : Type 0 where
   pub rewritten : (more : List MovedSitePage) → AreRewritten finds moves left more
       → AreRewritten finds moves pages (news ++ more)
+
+-- so is the next one
+pub SiteSoFar-next : (finds : List ℕ → List Target → Type 0) (moves : List Move) (pages : List SitePage) (page : SitePage)
+    (k : ℕ) (news : List MovedSitePage) (new : MovedSitePage) → k < length pages → page ≡ get_or pages k page
+    → ForMovedPage (IsRewritten finds) moves page new → SiteSoFar finds moves pages (drop k pages) news
+    → SiteSoFar finds moves pages (drop (k + 1) pages) (news ++ new ∷ [])
+SiteSoFar-next finds moves pages page k news new within is one so_far = record {
+  rewritten = λ more rest.
+      let left = drop_more pages k page within ∙ ap (λ next. next ∷ drop (k + 1) pages) (sym is) in
+      subst (AreRewritten finds moves pages) (sym (append_assoc news (new ∷ []) more))
+      (so_far.rewritten (new ∷ more) (subst (λ pages. AreRewritten finds moves pages (new ∷ more)) (sym left) (one, rest)));
+}
 
 pub SiteSoFar-end : (finds : List ℕ → List Target → Type 0) (moves : List Move) (pages left : List SitePage)
     (news : List MovedSitePage) → left ≡ [] → SiteSoFar finds moves pages left news → AreRewritten finds moves pages news

@@ -1,14 +1,11 @@
 -- What becomes of the targets of a page when files move, and of the page.
-use Rattle.std.specs.Prelude.{◌≡◌, ℕ, true, false, ◌&&◌, not, List, [], ◌∷◌, ◌++◌, length, drop, Option, None, Some, IsSomeAnd, Result, Ok, Err, if◌then◌else◌, string_bytes}
+use Rattle.std.specs.Prelude.{◌≡◌, ℕ, true, false, ◌&&◌, not, List, [], ◌∷◌, ◌++◌, length, drop, Option, None, IsSomeAnd, if◌then◌else◌, string_bytes}
 use Rattle.std.specs.List.{list_any}
 use Rattle.relative_path.specs.Steps.{Step, slash, components}
 use Rattle.relative_path.specs.Normalizing.{IsNormalTextOf}
 use Rattle.relative_path.specs.Relating.{Leads, IsReachable, IsShortestText}
-use Rattle.relative_path.specs.RelativePathBuf.{Buffer}
-use Rattle.relative_path_moves.specs.declared.move_error.ReferenceError.{ReferenceError}
-use Rattle.relative_path_moves.specs.declared.move_error.ReferenceError.TheVariants as error
 use Rattle.relative_path_moves.specs.Moves.{Move, ClimbsAbove, BelowTop}
-use Rattle.relative_path_moves.specs.TreeMoves.{AtTreeTarget}
+use Rattle.relative_path_moves.specs.TreeMoves.{AtTreeFile}
 use Rattle.relative_path_moves.specs.declared.tree_moves.PageMove.{PageMove}
 use Rattle.target_paths.specs.declared.target.TargetSyntax.{TargetSyntax}
 use Rattle.target_paths.specs.declared.target.WhyUnknown.{WhyUnknown}
@@ -34,7 +31,7 @@ moving moves page = record { moves = moves; before = components page.before; aft
 
 -- P holds of where the file is after the moves to which a path in the page led before
 abbrev pub AtFile : Moving → List ℕ → (List Step → Type 0) → Type 0
-AtFile m path P = AtTreeTarget m.moves m.before (components path) P
+AtFile m path P = AtTreeFile m.moves m.before (components path) P
 
 -- the path, as it is written, leads to the file after the moves too
 abbrev pub StillLeads : Moving → List ℕ → Type 0
@@ -113,11 +110,3 @@ IsChangeByWay path tail way (New text) =
     × IsTakenAs (target_of (with_slash path way))
     (path_before (path_written (with_slash path way)) (length (target_of (with_slash path way))))
 IsChangeByWay path tail way (Left why) = (why ≡ Nul) × (list_any is_nul (with_slash path way) ≡ true)
-
--- what becomes of a target that is this path and then the tail, if this becomes of the path
-abbrev pub IsChangeOf : List ℕ → List ℕ → Result (Option Buffer) ReferenceError → Change → Type 0
-IsChangeOf path tail (Ok None) change = change ≡ Kept
-IsChangeOf path tail (Ok (Some way)) change = IsChangeByWay path tail way.text change
-IsChangeOf path tail (Err error.AboveRoot) change = change ≡ Left AboveRoot
-IsChangeOf path tail (Err error.NoPath) change = change ≡ Left NoPath
-IsChangeOf path tail (Err error.OutOfMemory) change = ⊥

@@ -6,7 +6,6 @@ use Rattle.relative_path.specs.Steps.{Step, components}
 use Rattle.relative_path.specs.Walk.{IsSame}
 use Rattle.relative_path.specs.Normalizing.{IsNormalTextOf}
 use Rattle.relative_path.specs.Relating.{Leads}
-use Rattle.relative_path.specs.RelativePath.{path_components}
 use Rattle.relative_path_moves.specs.Moves.{Move}
 use Rattle.relative_path_places.specs.Places.{directory}
 use Rattle.relative_path_moves.specs.TreeMoves.{AtTreePath, IsLeftInPlace}
@@ -98,10 +97,11 @@ abbrev pub moved_to : List Move → List Step → List Step → Moving
 moved_to moves page now = record { moves = moves; before = directory page; after = directory now }
 
 -- P holds of a page: of its text, its edits and its new text, as it moves from its path to its new path
-abbrev pub ForMovedPage : (Moving → List ℕ → List Edit → Option (String Global) → Type 0) → List Move → SitePage → MovedSitePage
+abbrev pub ForMovedPage : (Moving → List ℕ → List Edit → Option (String Global) → Type 0) → List Move
+    → SitePage → MovedSitePage
     → Type 0
-ForMovedPage P moves page new = AtTreePath moves (path_components page.path) (λ now. IsNormalTextOf now new.path
-    × P (moved_to moves (path_components page.path) now) page.text.now new.edits.items new.text)
+ForMovedPage P moves page new = AtTreePath moves (components page.path.now) (λ now. IsNormalTextOf now new.path
+    × P (moved_to moves (components page.path.now) now) page.text.now new.edits.items new.text)
 
 -- the pages of a site are rewritten
 abbrev pub AreRewritten : (List ℕ → List Target → Type 0) → List Move → List SitePage → List MovedSitePage → Type 0

@@ -2,11 +2,11 @@
 use Rattle.std.specs.Prelude.{◌≤◌, ℕ, List, [], ◌∷◌, length, ⊤}
 use Rattle.std.specs.List.{between}
 use Rattle.std.specs.Str.{IsCharBoundary}
-use Rattle.markdown_targets.specs.declared.span.Span.{Span}
+use Rattle.markdown_targets.specs.declared.span.PageSpan.{PageSpan}
 use Rattle.relative_path_links.specs.declared.target.Target.{Target}
 
 -- the span of a target
-abbrev pub span_of : Target → Span
+abbrev pub span_of : Target → PageSpan
 span_of target = record { start = target.start; end = target.end }
 
 -- the text of a target in a page

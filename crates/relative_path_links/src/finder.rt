@@ -4,7 +4,7 @@ ghost use Rattle.relative_path_links.specs.declared.target.Target.{Target};
 ghost use Rattle.relative_path_links.specs.Targets.{HasTargets, span_of};
 
 use crate::target::Target;
-use markdown_targets::{LinkTarget, Span, TargetKind, link_targets};
+use markdown_targets::{LinkTarget, PageSpan, TargetKind, link_targets};
 use std::alloc::{AllocError, Global};
 use target_paths::TargetSyntax;
 
@@ -71,7 +71,7 @@ fn with_syntax(alloc: Global, links: &[LinkTarget]) -> Result<Vec<Target>, Alloc
 {
     let mut targets = Vec::with_capacity(alloc, links.len())?;
     for link in links {
-        let Span { start, end } = link.span;
+        let PageSpan { start, end } = link.span;
         let syntax = syntax_of(link.kind);
         targets.push(Target { syntax, start, end })?;
     }

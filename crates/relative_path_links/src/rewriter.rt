@@ -11,7 +11,6 @@ ghost use Rattle.relative_path_links.specs.Rewriter.{
   Becomes,
   ChangesPath,
   IsChangeByWay,
-  IsChangeOf,
   moving,
   unknown_change,
   with_slash,
@@ -20,7 +19,7 @@ ghost use Rattle.relative_path_links.specs.Rewriter.{
 use crate::edit::{Change, Edit, Unchanged};
 use crate::target::Target;
 use relative_path::{RelativePath, RelativePathBuf};
-use relative_path_moves::{PageMove, ReferenceError, TreeMoves};
+use relative_path_moves::{MovedReference, PageMove, ReferenceError, TreeMoves};
 use relative_path_places::NormalPath;
 use std::alloc::{AllocError, Global};
 use target_paths::{TargetReading, TargetSyntax, WhyUnknown, path_of_target, push_target_of_path};
@@ -39,8 +38,8 @@ use target_paths::{TargetReading, TargetSyntax, WhyUnknown, path_of_target, push
 /// end, the query and the fragment stay. If there is no such path, the target is left as it is. A target whose
 /// meaning isn't known is left too, if the table has a move, since it may lead to what moved.
 ///
-/// Allocates the list of edits. For each target it allocates at most six times: what [`path_of_target`] and
-/// [`TreeMoves::reference_in`] do, and the new text. The only error is lack of memory.
+/// Allocates the list of edits, and for each target what [`path_of_target`] and [`TreeMoves::reference_in`] do, and
+/// its new text. The only error is lack of memory.
 ///
 /// ```
 /// let moves = [("a.md", "docs/a.md"), ("my b.md", "docs/more/b.md")]
@@ -48,7 +47,8 @@ use target_paths::{TargetReading, TargetSyntax, WhyUnknown, path_of_target, push
 /// let moves = TreeMoves::new(alloc, &moves)?;
 /// let page = "[b](my%20b.md#top), <img src='img/c.png'>, [d](../d.md)";
 /// let found = targets(alloc, page)?;
-/// let moved = moves.moved_page(alloc, RelativePath::new("a.md"))?;
+/// let path = NormalPath::of(alloc, RelativePath::new("a.md"))?;
+/// let moved = moves.moved_page(alloc, &path)?;
 /// let edits = rewrite_links(alloc, page, &found, &moves, &moved)?;
 /// let expected = "[b](more/b.md#top), <img src='../img/c.png'>, [d](../d.md)";
 /// assert_eq!(rt; edited(alloc, page, &edits)?.as_str(), expected);
@@ -105,7 +105,7 @@ fn edit_of(
             file: None,
         }),
         TargetReading::Path { path, tail_at } => {
-            let (file, change) = followed(
+            let (file, change) = follow(
                 alloc,
                 target.syntax,
                 &path,
@@ -135,7 +135,7 @@ fn unknown_change(moves: &TreeMoves<'_>, why: WhyUnknown) -> Change
 }
 
 // Returns the file to which a path leads in a page, and what becomes of a target that is this path and then the tail.
-fn followed(
+fn follow(
     alloc: Global,
     syntax: TargetSyntax,
     path: &str,
@@ -149,26 +149,15 @@ fn followed(
         ChangesPath (moving moves.now moved.now) syntax path.now tail.now found.1) }
     ensures new { IfOk result (λ found. ¬ IsGivenUp found.1) }
 {
-    let found = moves.reference_in(alloc, moved, RelativePath::new(path))?;
-    let change = change_of(alloc, path, tail, found.moved)?;
-    Ok((found.file, change))
-}
-
-// Returns what becomes of a target that is this path and then the tail, if this becomes of the path.
-fn change_of(
-    alloc: Global,
-    path: &str,
-    tail: &str,
-    moved: Result<Option<RelativePathBuf>, ReferenceError>,
-) -> Result<Change, AllocError>
-    ensures change { IfOk result (IsChangeOf path.now tail.now moved) }
-    ensures new { IfOk result (λ change. ¬ IsGivenUp change) }
-{
+    let MovedReference { file, moved } = moves.reference_in(alloc, moved, RelativePath::new(path))?;
     match moved {
-        Ok(None) => Ok(Change::Kept),
-        Ok(Some(way)) => new_target(alloc, path, tail, way),
-        Err(ReferenceError::AboveRoot) => Ok(Change::Left(Unchanged::AboveRoot)),
-        Err(ReferenceError::NoPath) => Ok(Change::Left(Unchanged::NoPath)),
+        Ok(None) => Ok((file, Change::Kept)),
+        Ok(Some(way)) => {
+            let change = new_target(alloc, path, tail, way)?;
+            Ok((file, change))
+        }
+        Err(ReferenceError::AboveRoot) => Ok((file, Change::Left(Unchanged::AboveRoot))),
+        Err(ReferenceError::NoPath) => Ok((file, Change::Left(Unchanged::NoPath))),
         Err(ReferenceError::OutOfMemory) => Err(AllocError),
     }
 }

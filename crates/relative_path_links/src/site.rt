@@ -6,7 +6,6 @@ use crate::edit::Edit;
 use crate::finder::Finder;
 use crate::reread::settle;
 use crate::rewriter::rewrite_links;
-use relative_path::RelativePath;
 use relative_path_moves::TreeMoves;
 use relative_path_places::NormalPath;
 use std::alloc::{AllocError, Global};
@@ -15,7 +14,7 @@ use std::alloc::{AllocError, Global};
 #[derive(Clone, Copy, Debug)]
 pub struct SitePage<'a> {
     /// Its path from the root of the site.
-    pub path: RelativePath<'a>,
+    pub path: &'a NormalPath,
     /// Its text.
     pub text: &'a str,
 }
@@ -50,7 +49,8 @@ pub struct MovedSitePage {
 /// ```
 /// let moves = [(RelativePath::new("guide"), RelativePath::new("docs/guide"))];
 /// let moves = TreeMoves::new(alloc, &moves)?;
-/// let page = SitePage { path: RelativePath::new("index.md"), text: "[a](guide/a.md)" };
+/// let index = NormalPath::of(alloc, RelativePath::new("index.md"))?;
+/// let page = SitePage { path: &index, text: "[a](guide/a.md)" };
 /// let moved = rewrite_site(alloc, &[page], &moves, &Markdown)?;
 /// assert_eq!(rt; moved[0].path.as_relative_path().as_str(), "index.md");
 /// assert_eq!(rt; moved[0].text.as_deref(), Some("[a](docs/guide/a.md)"));

@@ -3,20 +3,20 @@
 use Rattle.std.proofs.Common.{◌≡◌, List}
 use Rattle.relative_path.specs.Steps.{Step}
 use Rattle.relative_path.specs.Walk.{IsSame}
-use Rattle.relative_path_moves.specs.Moves.{Move, AreApart, IsTarget}
-use Rattle.relative_path_moves.specs.TreeMoves.{IsTreeTarget, AtTreePath}
+use Rattle.relative_path_moves.specs.Moves.{Move, AreApart, IsPathAfter}
+use Rattle.relative_path_moves.specs.TreeMoves.{IsTreePath, AtTreePath}
 use Rattle.relative_path_moves.proofs.MovesLemmas as moves
 use Rattle.relative_path_moves.proofs.TreeMovesLemmas as trees
 
 -- a place has one target
-pub IsTarget-only : (moves : List Move) (place one other : List Step) → AreApart moves → IsTarget moves place one
-    → IsTarget moves place other → other ≡ one
-IsTarget-only = moves.IsTarget-only
+pub IsPathAfter-only : (moves : List Move) (place one other : List Step) → AreApart moves → IsPathAfter moves place one
+    → IsPathAfter moves place other → other ≡ one
+IsPathAfter-only = moves.IsPathAfter-only
 
 -- a file has one target
-pub IsTreeTarget-only : (moves : List Move) (file one other : List Step) → AreApart moves → IsTreeTarget moves file one
-    → IsTreeTarget moves file other → other ≡ one
-IsTreeTarget-only = trees.IsTreeTarget-only
+pub IsTreePath-only : (moves : List Move) (file one other : List Step) → AreApart moves → IsTreePath moves file one
+    → IsTreePath moves file other → other ≡ one
+IsTreePath-only = trees.IsTreePath-only
 
 -- what holds of the target of a list, and of each list that leads to the same, holds of the target of such a list
 pub AtTreePath-same : (moves : List Move) (f g : List Step) (P Q : List Step → Type 0) → IsSame f g

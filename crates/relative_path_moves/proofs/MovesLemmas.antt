@@ -1,19 +1,18 @@
--- The one target of a place, moves as pairs of paths, and the first move without a file name.
-use Rattle.std.proofs.Common.{◌≡◌, ◌≢◌, ℕ, ◌<◌, ◌+◌, ◌⊎◌, List, [], ◌∷◌, ◌++◌, length, take, get_or, not, is_some, Bool, true, false, Bor, true≢false, Option, Some, None, inl, inr, refl, sym, ap, subst, zero, suc, ◌∙◌, arith}
+-- The one target of a place, moves made of other values, and the first move without a file name.
+use Rattle.std.proofs.Common.{◌≡◌, ◌≢◌, ℕ, ◌<◌, ◌+◌, ◌⊎◌, List, [], ◌∷◌, ◌++◌, length, map, take, get_or, not, is_some, Bool, true, false, Bor, true≢false, Option, Some, None, inl, inr, sym, ap, subst, ◌∙◌, arith}
 use Rattle.std.proofs.lemmas.Bool.{cases_lt, cases_order}
-use Rattle.std.proofs.lemmas.List.{get_or-map, length-map, take_more}
+use Rattle.std.proofs.lemmas.List.{get_or-map, length-map, map_push, take_more}
 use Rattle.std.proofs.lemmas.Option.{none-some}
 use Rattle.std.specs.Option.{option_copied}
 use Rattle.relative_path.specs.Steps.{Step}
 use Rattle.relative_path.specs.Naming.{file_name_of}
-use Rattle.relative_path.specs.Normalizing.{IsNormalTextOf}
 use Rattle.relative_path.specs.RelativePath.{path_text, path_components}
 use Rattle.relative_path.specs.declared.path.RelativePath.{RelativePath}
 use Rattle.relative_path.proofs.ForCallers.{IsSame-sym, IsSame-trans}
-use Rattle.relative_path_moves.specs.Moves.{Move, LacksFileName, IsFirstNameless, moves_of, move_at, AreApart, MovesFrom, IsTarget}
+use Rattle.relative_path_moves.specs.declared.moves.Move as declared
+use Rattle.relative_path_moves.specs.Moves.{Move, LacksFileName, IsFirstNameless, moves_of, written_moves, move_at, AreApart, MovesFrom, IsPathAfter}
 use Rattle.relative_path_places.specs.PlaceIndex.{path_at}
 use Rattle.relative_path_moves.specs.MoveTable.{olds_of}
-use Rattle.relative_path_moves.specs.TreeMoves.{HaveNewTexts}
 
 -- ---- one target of a place
 
@@ -29,49 +28,67 @@ one_move moves place j k apart first second = elim (cases_order j k) [
 ]
 
 -- then a place has one target
-pub IsTarget-only : (moves : List Move) (place one other : List Step) → AreApart moves → IsTarget moves place one
-    → IsTarget moves place other → other ≡ one
-IsTarget-only moves place one other apart (inl (j, from, e)) (inl (k, from_2, f)) =
+pub IsPathAfter-only : (moves : List Move) (place one other : List Step) → AreApart moves → IsPathAfter moves place one
+    → IsPathAfter moves place other → other ≡ one
+IsPathAfter-only moves place one other apart (inl (j, from, e)) (inl (k, from_2, f)) =
     f ∙ ap (λ k. (move_at moves k).new) (one_move moves place k j apart from_2 from) ∙ sym e
-IsTarget-only moves place one other apart (inl (j, from, e)) (inr (none, f)) = absurd (none j from)
-IsTarget-only moves place one other apart (inr (none, e)) (inl (k, from, f)) = absurd (none k from)
-IsTarget-only moves place one other apart (inr (none, e)) (inr (none_2, f)) = f ∙ sym e
+IsPathAfter-only moves place one other apart (inl (j, from, e)) (inr (none, f)) = absurd (none j from)
+IsPathAfter-only moves place one other apart (inr (none, e)) (inl (k, from, f)) = absurd (none k from)
+IsPathAfter-only moves place one other apart (inr (none, e)) (inr (none_2, f)) = f ∙ sym e
 
--- ---- moves as pairs of paths
+-- ---- moves made of other values
 
 -- a move by its number
-pub move_at-moves_of : (paths : List (RelativePath × RelativePath)) (i : ℕ) (none : RelativePath × RelativePath)
-    → i < length paths → move_at (moves_of paths) i
-    ≡ record { old = path_components (get_or paths i none).0; new = path_components (get_or paths i none).1 }
-move_at-moves_of paths i none l = get_or-map _ paths i none _ l
+pub move_at-map : {A : Type 0} (f : A → Move) (xs : List A) (none : A) (k : ℕ) → k < length xs
+    → move_at (map f xs) k ≡ f (get_or xs k none)
+move_at-map f xs none k l = get_or-map f xs k none _ l
 
-pub length-moves_of : (paths : List (RelativePath × RelativePath)) → length (moves_of paths) ≡ length paths
-length-moves_of paths = length-map paths _
-
-pub length-olds_of : (paths : List (RelativePath × RelativePath)) → length (olds_of (moves_of paths)) ≡ length paths
-length-olds_of paths = length-map (moves_of paths) _ ∙ length-moves_of paths
+pub length-olds_of : {A : Type 0} (f : A → Move) (xs : List A) → length (olds_of (map f xs)) ≡ length xs
+length-olds_of f xs = length-map (map f xs) _ ∙ length-map xs f
 
 -- an old path by its number
 pub old_at : (moves : List Move) (k : ℕ) → k < length moves → path_at (olds_of moves) k ≡ (move_at moves k).old
 old_at moves k l = get_or-map (λ move. move.old) moves k _ [] l
 
 -- the old paths up to the next
-take_more-olds_of : (paths : List (RelativePath × RelativePath)) (none : RelativePath × RelativePath) (k : ℕ)
-    → k < length paths → take (k + 1) (olds_of (moves_of paths))
-    ≡ take k (olds_of (moves_of paths)) ++ path_components (get_or paths k none).0 ∷ []
-take_more-olds_of paths none k l =
-    take_more (olds_of (moves_of paths)) k [] (rw (length-olds_of paths) l)
-    ∙ ap (λ path. take k (olds_of (moves_of paths)) ++ path ∷ [])
-    (old_at (moves_of paths) k (rw (length-moves_of paths) l)
-    ∙ ap (λ move. move.old) (move_at-moves_of paths k none l))
+take_more-olds_of : {A : Type 0} (f : A → Move) (xs : List A) (none : A) (k : ℕ) → k < length xs
+    → take (k + 1) (olds_of (map f xs)) ≡ take k (olds_of (map f xs)) ++ (f (get_or xs k none)).old ∷ []
+take_more-olds_of f xs none k l =
+    take_more (olds_of (map f xs)) k [] (rw (length-olds_of f xs) l)
+    ∙ ap (λ path. take k (olds_of (map f xs)) ++ path ∷ [])
+    (old_at (map f xs) k (rw (length-map xs f) l) ∙ ap (λ move. move.old) (move_at-map f xs none k l))
 
 -- what is known of the old paths before a move and of that move's old path is known of the old paths up to it
-pub olds_of-next : (P : List (List Step) → List Step → Type 0) (paths : List (RelativePath × RelativePath))
-    (none : RelativePath × RelativePath) (k : ℕ) → k < length paths
-    → P (take k (olds_of (moves_of paths)) ++ path_components (get_or paths k none).0 ∷ [])
-    (path_components (get_or paths k none).0)
-    → P (take (k + 1) (olds_of (moves_of paths))) (move_at (moves_of paths) k).old
-olds_of-next P paths none k l holds = rw (take_more-olds_of paths none k l, move_at-moves_of paths k none l) holds
+pub olds_of-next : {A : Type 0} (P : List (List Step) → List Step → Type 0) (f : A → Move) (xs : List A) (none : A)
+    (k : ℕ) → k < length xs
+    → P (take k (olds_of (map f xs)) ++ (f (get_or xs k none)).old ∷ []) (f (get_or xs k none)).old
+    → P (take (k + 1) (olds_of (map f xs))) (move_at (map f xs) k).old
+olds_of-next P f xs none k l holds = rw (take_more-olds_of f xs none k l, move_at-map f xs none k l) holds
+
+-- the same for the value with that number
+pub olds_of-here : {A : Type 0} (P : List (List Step) → List Step → Type 0) (f : A → Move) (xs : List A) (x : A)
+    (k : ℕ) → k < length xs → x ≡ get_or xs k x → P (take k (olds_of (map f xs)) ++ (f x).old ∷ []) (f x).old
+    → P (take (k + 1) (olds_of (map f xs))) (move_at (map f xs) k).old
+olds_of-here P f xs x k l is holds =
+    olds_of-next P f xs x k l (subst (λ y. P (take k (olds_of (map f xs)) ++ (f y).old ∷ []) (f y).old) is holds)
+
+-- the move from the first path of a pair to the second
+abbrev pub move_of_pair : RelativePath × RelativePath → Move
+move_of_pair pair = record { old = path_components pair.0; new = path_components pair.1 }
+
+-- the moves of pairs, up to the next
+pub moves_of-next : (pairs : List (RelativePath × RelativePath)) (none : RelativePath × RelativePath) (k : ℕ)
+    (moves : List declared.Move) (move : declared.Move) → k < length pairs
+    → written_moves moves ≡ take k (moves_of pairs) → move.old ≡ (get_or pairs k none).0
+    → move.new ≡ (get_or pairs k none).1 → written_moves (moves ++ move ∷ []) ≡ take (k + 1) (moves_of pairs)
+moves_of-next pairs none k moves move within before old new =
+    map_push _ moves move
+    ∙ ap (λ moves. moves ++ record { old = path_components move.old; new = path_components move.new } ∷ []) before
+    ∙ ap (λ move. take k (moves_of pairs) ++ move ∷ [])
+    (ap (λ old. record { old = path_components old; new = path_components move.new }) old
+    ∙ ap (λ new. record { old = path_components (get_or pairs k none).0; new = path_components new }) new
+    ∙ sym (move_at-map _ pairs none k within))
+    ∙ sym (take_more (moves_of pairs) k _ (rw (length-map pairs _) within))
 
 -- if `file_name` returns `None`, the path has no file name
 pub nameless : (found : Option (Bor (List ℕ))) (lacks : Bool) (name : Option (List ℕ)) → option_copied found ≡ name
@@ -94,7 +111,7 @@ named-next paths none k within before old new j l lacks = elim (cases_lt j k) [
   | inl less ↦ before j less lacks
   | inr no_less ↦
       let is_k : j ≡ k = omega arith in
-      let here = rw (is_k, move_at-moves_of paths k none within) at lacks in
+      let here = rw (is_k, move_at-map _ paths none k within) at lacks in
       elim here [
         | inl lacks_old ↦ old lacks_old
         | inr lacks_new ↦ new lacks_new
@@ -108,28 +125,7 @@ pub IsFirstNameless-here : (paths : List (RelativePath × RelativePath)) (none :
     ⊎ (file_name_of (path_text (get_or paths k none).1) ≡ None)
     → IsFirstNameless (moves_of paths) k
 IsFirstNameless-here paths none k within before lacks = record {
-  within = rw (length-moves_of paths) within;
-  lacks = rw (move_at-moves_of paths k none within) lacks;
+  within = rw (length-map paths _) within;
+  lacks = rw (move_at-map _ paths none k within) lacks;
   first = before;
 }
-
--- ---- the normal texts of the new paths
-
--- the texts are the normal texts of the new paths of the first k moves
-pub record HaveFirstTexts (moves : List Move) (k : ℕ) (texts : List (List ℕ)) : Type 0 where
-  pub count : length texts ≡ k
-  pub each : (j : ℕ) → j < k → IsNormalTextOf (move_at moves j).new (get_or texts j [])
-
--- a text within the list, whatever is read past the end
-pub get_or-within : (texts : List (List ℕ)) (j : ℕ) (one other : List ℕ) → j < length texts
-    → get_or texts j one ≡ get_or texts j other
-get_or-within [] j one other less = absurd (omega (arith, less))
-get_or-within (text ∷ texts) zero one other less = refl
-get_or-within (text ∷ texts) (suc j) one other less = get_or-within texts j one other (omega (arith, less))
-
--- the text of a new path
-pub HaveNewTexts-at : (moves : List Move) (texts : List (List ℕ)) (j : ℕ) (none : List ℕ) → HaveNewTexts moves texts
-    → j < length moves → IsNormalTextOf (move_at moves j).new (get_or texts j none)
-HaveNewTexts-at moves texts j none news within =
-    subst (IsNormalTextOf (move_at moves j).new) (get_or-within texts j [] none (omega (arith, news.count, within)))
-    (news.each j within)

@@ -3,7 +3,7 @@ use Rattle.std.proofs.Common.{◌≡◌, ℕ, ◌<◌, ◌≤◌, ◌+◌, ◌�
 use Rattle.std.proofs.lemmas.Bool.{cases_lt}
 use Rattle.std.proofs.lemmas.List.{get_or-take}
 use Rattle.relative_path.proofs.ForCallers.{IsSame-sym}
-use Rattle.relative_path_moves.specs.Moves.{Move, move_at, HaveSameOld}
+use Rattle.relative_path_moves.specs.Moves.{Move, move_at, HaveSameOld, AreApart, IsFirstPair}
 use Rattle.relative_path_places.specs.PlaceIndex.{path_at, IsFirstAt}
 use Rattle.relative_path_moves.specs.MoveTable.{olds_of}
 use Rattle.relative_path_moves.proofs.MovesLemmas.{old_at}
@@ -109,3 +109,12 @@ HasPair-next moves n first pair next within is has one earlier later =
         | inl less ↦ rw (later l less) (HasPair-later moves n first (Some (j, k)) (here l) from less has)
         | inr no_less ↦ rw (earlier no_less) (HasPair-earlier moves n first j k from no_less has)
       ]
+
+-- the first pair of all moves
+pub HasPair-all : (moves : List Move) (n : ℕ) (pair : Option (ℕ × ℕ)) → length moves ≤ n → HasPair moves n pair
+    → MatchOption pair (AreApart moves) (λ pair. IsFirstPair moves pair.0 pair.1)
+HasPair-all moves n None all has = λ a b same. has a b (omega (arith, all, same.within)) same
+HasPair-all moves n (Some pair) all has = record {
+  pair = has.1;
+  first = λ a b same. has.2 a b (omega (arith, all, same.within)) same;
+}

@@ -1,5 +1,5 @@
 -- The nearest move above a place, found from the place upwards, and where it takes a file.
-use Rattle.std.proofs.Common.{◌≡◌, ◌≢◌, ℕ, ◌<◌, ◌≤◌, ◌+◌, List, [], ◌∷◌, ◌++◌, length, map, take, drop, Option, Some, None, unwrap_or, IsSome, inl, inr, refl, sym, ap, ◌∙◌, subst, arith, append_assoc, append-nil, take_at, take-append-drop, true≢false, option_and_then, IfSome, Result, Ok, Err, IfOk}
+use Rattle.std.proofs.Common.{◌≡◌, ◌≢◌, ℕ, ◌<◌, ◌≤◌, ◌+◌, List, [], ◌∷◌, ◌++◌, length, map, get_or, take, drop, Option, Some, None, unwrap_or, IsSome, inl, inr, refl, sym, ap, ◌∙◌, subst, arith, append_assoc, append-nil, take_at, take-append-drop, true≢false, option_and_then, IfSome, Result, Ok, Err, IfOk}
 use Rattle.std.proofs.lemmas.Bool.{cases_lt, cases_order}
 use Rattle.std.proofs.lemmas.List.{append_cancel_left, length-map, length-append, length-take-le, map-append, take-map}
 use Rattle.relative_path.specs.Steps.{Step, name, components}
@@ -10,10 +10,15 @@ use Rattle.relative_path.specs.Normalizing.{AreNames, IsNormalText, IsNormalText
 use Rattle.relative_path.proofs.ForCallers.{IsSame-refl, IsSame-trans, IsSame-append_right, IsSame-last_name, last_name-name, kept-name, walk-append, walk-names, components-place, IsSame-sym, IsSame-place}
 use Rattle.relative_path_places.specs.Places.{directory}
 use Rattle.relative_path_places.specs.PlaceIndex.{path_at, IsFirstAt, IsNoneAt}
-use Rattle.relative_path_moves.specs.Moves.{Move, move_at, AreNamed, AreApart}
+use Rattle.relative_path.specs.RelativePath.{path_components}
+use Rattle.std.proofs.lemmas.Simd.{map-map}
+use Rattle.relative_path_moves.specs.declared.moves.Move as declared
+use Rattle.relative_path_moves.specs.declared.tree_moves.Side.{Side}
+use Rattle.relative_path_moves.specs.declared.tree_moves.Side.TheVariants.{Old, New}
+use Rattle.relative_path_moves.specs.Moves.{Move, move_at, written_moves, AreNamed, AreApart}
 use Rattle.relative_path_moves.specs.MoveTable.{olds_of}
-use Rattle.relative_path_moves.specs.TreeMoves.{TakesAlong, IsNearest, IsTakenTo, IsLeftInPlace, IsTreeTarget, AtTreePath, NearestUpTo}
-use Rattle.relative_path_moves.proofs.MovesLemmas.{old_at}
+use Rattle.relative_path_moves.specs.TreeMoves.{TakesAlong, IsNearest, IsTakenTo, IsLeftInPlace, IsTreePath, AtTreePath, NearestUpTo, by_side, path_on}
+use Rattle.relative_path_moves.proofs.MovesLemmas.{old_at, move_at-map}
 use Rattle.relative_path_places.proofs.ForCallers.{IsNormalTextOf-same}
 use Rattle.relative_path_moves.proofs.LeadingLemmas.{last_name_of, last_name_same, some_of}
 
@@ -165,11 +170,11 @@ pub within-nearest : (moves : List Move) (cs : List Step) (j : ℕ) → NearestU
 within-nearest moves cs j (m, within, first, longer) = omega (arith, first.within, length-map moves (λ move. move.old))
 
 -- the path of the file after the moves
-pub taken-target : (moves : List Move) (file : List Step) (text top new now : List ℕ) (j : ℕ) (rest : List Step)
+pub taken-path : (moves : List Move) (file : List Step) (text top new now : List ℕ) (j : ℕ) (rest : List Step)
     → IsTaken moves file text top j → components text ≡ components top ++ rest → IsNormalTextOf (move_at moves j).new new
     → IsNormalTextOf (components new ++ rest) now
     → (target : List Step) × IsTakenTo moves file target × IsNormalTextOf target now
-taken-target moves file text top new now j rest taken split is_new normal =
+taken-path moves file text top new now j rest taken split is_new normal =
     let names = IsTaken-rest moves file text top j rest taken split in
     let there = IsSame-trans (IsSame-append_right (map name taken.below) is_new.same) (rw names at normal.same) in (
       (move_at moves j).new ++ map name taken.below,
@@ -178,9 +183,9 @@ taken-target moves file text top new now j rest taken split is_new normal =
     )
 
 -- a file that is taken along has a file name after the moves
-named_target : (moves : List Move) (file target : List Step) → AreNamed moves → IsTakenTo moves file target
+named_path : (moves : List Move) (file target : List Step) → AreNamed moves → IsTakenTo moves file target
     → (n : List ℕ) × (last_name target ≡ Some n)
-named_target moves file target named taken = elim (last_name_of taken.below) [
+named_path moves file target named taken = elim (last_name_of taken.below) [
   | inl empty ↦
       let (n, is) =
       some_of (last_name (move_at moves taken.move).new)
@@ -199,11 +204,11 @@ named_target moves file target named taken = elim (last_name_of taken.below) [
 ]
 
 -- the directory of its normal path is its directory
-pub directory-target : (moves : List Move) (file target : List Step) (now after : List ℕ) → AreNamed moves
+pub directory-path : (moves : List Move) (file target : List Step) (now after : List ℕ) → AreNamed moves
     → IsTakenTo moves file target → IsNormalTextOf target now → IsNormalTextOf (directory (components now)) after
     → IsNormalTextOf (directory target) after
-directory-target moves file target now after named taken normal is =
-    let (n, has) = named_target moves file target named taken in
+directory-path moves file target now after named taken normal is =
+    let (n, has) = named_path moves file target named taken in
     let (ds, ends, same) =
     last_name_same (directory target) (components now) n normal.normal_text.normal
     (IsSame-trans (IsSame-sym (IsSame-last_name target n has)) normal.same) in
@@ -242,9 +247,9 @@ one_taken moves place j k below more apart one other equal =
     )
 
 -- if no two moves have the same old path, a file has one target
-pub IsTreeTarget-only : (moves : List Move) (file one other : List Step) → AreApart moves → IsTreeTarget moves file one
-    → IsTreeTarget moves file other → other ≡ one
-IsTreeTarget-only moves file one other apart (inl is) (inl is_other) =
+pub IsTreePath-only : (moves : List Move) (file one other : List Step) → AreApart moves → IsTreePath moves file one
+    → IsTreePath moves file other → other ≡ one
+IsTreePath-only moves file one other apart (inl is) (inl is_other) =
     let places = one_place file is_other.place is.place is_other.leads is.leads in
     let takes = subst (λ place. TakesAlong moves place is_other.move is_other.below) places is_other.nearest.takes in
     let least = is.nearest.nearest is_other.move is_other.below takes in
@@ -256,11 +261,11 @@ IsTreeTarget-only moves file one other apart (inl is) (inl is_other) =
     (omega (arith, least, least_other)) in
     is_other.new ∙ ap (λ k. (move_at moves k).new ++ map name is_other.below) move
     ∙ ap (λ ns. (move_at moves is.move).new ++ map name ns) names ∙ sym is.new
-IsTreeTarget-only moves file one other apart (inl is) (inr (left, e)) =
+IsTreePath-only moves file one other apart (inl is) (inr (left, e)) =
     absurd (left is.place is.move is.below is.leads is.nearest.takes)
-IsTreeTarget-only moves file one other apart (inr (left, e)) (inl is) =
+IsTreePath-only moves file one other apart (inr (left, e)) (inl is) =
     absurd (left is.place is.move is.below is.leads is.nearest.takes)
-IsTreeTarget-only moves file one other apart (inr (left, e)) (inr (left_other, f)) = f ∙ sym e
+IsTreePath-only moves file one other apart (inr (left, e)) (inr (left_other, f)) = f ∙ sym e
 
 -- what holds of the target of a list, and of each list that leads to the same, holds of the target of such a list
 pub AtTreePath-same : (moves : List Move) (f g : List Step) (P Q : List Step → Type 0) → IsSame f g
@@ -293,3 +298,30 @@ pub IfSome-all : {T : Type 0} {P Q : T → Type 0} (found : Option T) → ((x : 
     → IfSome found Q
 IfSome-all (Some x) all holds = all x holds
 IfSome-all None all holds = tt
+
+-- ---- moves by their old or by their new paths
+
+-- the other path of a move
+abbrev other : Side → Side
+other Old = New
+other New = Old
+
+-- the move that begins with this path
+abbrev pub move_by : Side → declared.Move → Move
+move_by side move = record {
+  old = path_components (path_on side move);
+  new = path_components (path_on (other side) move);
+}
+
+pub by_side-map : (side : Side) (moves : List declared.Move) → map (move_by side) moves ≡ by_side side (written_moves moves)
+by_side-map Old moves = refl
+by_side-map New moves = sym (map-map _ _ moves)
+
+-- the new path of a move of a table
+pub written_move-new : (table : List Move) (moves : List declared.Move) (j : ℕ) (none : declared.Move)
+    (move : declared.Move) → written_moves moves ≡ table → j < length table → move ≡ get_or moves j none
+    → path_components move.new ≡ (move_at table j).new
+written_move-new table moves j none move is within here =
+    ap (λ (move : declared.Move). path_components move.new) here
+    ∙ sym (ap (λ (move : Move). move.new) (move_at-map _ moves none j (rw (sym is, length-map moves _) at within)))
+    ∙ ap (λ table. (move_at table j).new) is

@@ -1,4 +1,4 @@
--- What a table of moves holds, and the path that it gives to a target.
+-- What a table of moves holds, and the path that it gives to a place.
 use Rattle.std.specs.Prelude.{◌≡◌, ◌≢◌, List, ◌++◌, map, Result, Ok, Err, Option, Some, None, ⊤}
 use Rattle.relative_path.specs.Steps.{Step}
 use Rattle.relative_path.specs.Walk.{IsSame, place_of}
@@ -8,7 +8,7 @@ use Rattle.relative_path_moves.specs.declared.move_error.ReferenceError.{Referen
 use Rattle.relative_path_moves.specs.declared.move_error.ReferenceError.TheVariants.{AboveRoot, NoPath, OutOfMemory}
 use Rattle.relative_path_places.specs.declared.place_index.PlaceIndex.{PlaceIndex}
 use Rattle.relative_path_places.specs.PlaceIndex.{Indexes}
-use Rattle.relative_path_moves.specs.Moves.{Move, AreNamed, AreApart, IsTarget}
+use Rattle.relative_path_moves.specs.Moves.{Move, AreNamed, AreApart, IsPathAfter}
 
 -- the old paths of the moves
 abbrev pub olds_of : List Move → List (List Step)
@@ -20,12 +20,12 @@ pub record IsSound (moves : List Move) (by_old : PlaceIndex) : Type 0 where
   pub apart : AreApart moves
   pub olds : Indexes (olds_of moves) by_old
 
--- the components lead where the one target of a place leads
-pub record LeadToTarget (moves : List Move) (place cs : List Step) : Type 0 where
-  pub target : List Step
-  pub is : IsTarget moves place target
-  pub only : (other : List Step) → IsTarget moves place other → other ≡ target
-  pub same : IsSame target cs
+-- the components lead where the file at a place is after the moves, which is one place
+pub record LeadToFile (moves : List Move) (place cs : List Step) : Type 0 where
+  pub path : List Step
+  pub is : IsPathAfter moves place path
+  pub only : (other : List Step) → IsPathAfter moves place other → other ≡ path
+  pub same : IsSame path cs
 
 -- P holds of the path from the directory to the components, or the error says why there is no path; a failed
 -- allocation says nothing

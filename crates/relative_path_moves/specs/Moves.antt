@@ -7,6 +7,7 @@ use Rattle.relative_path.specs.Relating.{IsReachable, IsShortestText}
 use Rattle.relative_path.specs.RelativePath.{path_components}
 use Rattle.relative_path.specs.declared.path.RelativePath.{RelativePath}
 use Rattle.relative_path_places.specs.Places.{directory}
+use Rattle.relative_path_moves.specs.declared.moves.Move as declared
 
 -- a move of a file: the components of its old path and of its new one
 pub record Move : Type 0 where
@@ -16,6 +17,14 @@ pub record Move : Type 0 where
 -- the moves that these pairs of an old and a new path are
 abbrev pub moves_of : List (RelativePath × RelativePath) → List Move
 moves_of = map (λ paths. record { old = path_components paths.0; new = path_components paths.1 })
+
+-- the moves that these are, by the components of their paths as they are written
+abbrev pub written_moves : List declared.Move → List Move
+written_moves = map (λ move. record { old = path_components move.old; new = path_components move.new })
+
+-- the moves, turned: each from its new path to its old one
+abbrev pub turned : List Move → List Move
+turned = map (λ move. record { old = move.new; new = move.old })
 
 -- move number k, counted from 0
 abbrev pub move_at : List Move → ℕ → Move
@@ -64,35 +73,35 @@ abbrev pub IsUnmoved : List Move → List Step → Type 0
 IsUnmoved moves place = (j : ℕ) → ¬ MovesFrom moves place j
 
 -- where the file at a place is after the moves: its new path if the file moved, and otherwise the place itself
-abbrev pub IsTarget : List Move → List Step → List Step → Type 0
-IsTarget moves place target =
-    ((j : ℕ) × MovesFrom moves place j × (target ≡ (move_at moves j).new))
-    ⊎ IsUnmoved moves place × (target ≡ place)
+abbrev pub IsPathAfter : List Move → List Step → List Step → Type 0
+IsPathAfter moves place path =
+    ((j : ℕ) × MovesFrom moves place j × (path ≡ (move_at moves j).new))
+    ⊎ IsUnmoved moves place × (path ≡ place)
 
 -- P holds of where the file at a place is after the moves
-abbrev pub AtNewPath : List Move → List Step → (List Step → Type 0) → Type 0
-AtNewPath moves place P = (target : List Step) × IsTarget moves place target × P target
+abbrev pub AtPathAfter : List Move → List Step → (List Step → Type 0) → Type 0
+AtPathAfter moves place P = (path : List Step) × IsPathAfter moves place path × P path
 
--- P holds of the target of the reference in the file of move number i
-abbrev pub ForTarget : List Move → ℕ → List Step → (List Step → Type 0) → Type 0
-ForTarget moves i reference = AtNewPath moves (meant moves i reference)
+-- P holds of where the file is after the moves to which the reference in the file of move number i leads
+abbrev pub ForFile : List Move → ℕ → List Step → (List Step → Type 0) → Type 0
+ForFile moves i reference = AtPathAfter moves (meant moves i reference)
 
--- P holds of the directory where a page is after the moves, and of the target of its reference
-abbrev pub ForTargetOfLink : List Move → List Step → List Step → (List Step → List Step → Type 0) → Type 0
-ForTargetOfLink moves page reference P = AtNewPath moves page (λ now. AtNewPath moves (directory page ++ reference) (P (directory now)))
+-- P holds of the directory where a page is after the moves, and of where the file is to which its reference leads
+abbrev pub ForFileOfLink : List Move → List Step → List Step → (List Step → List Step → Type 0) → Type 0
+ForFileOfLink moves page reference P = AtPathAfter moves page (λ now. AtPathAfter moves (directory page ++ reference) (P (directory now)))
 
 -- from the top it leads to no place
 abbrev pub ClimbsAbove : List Step → Type 0
-ClimbsAbove target = place_of target ≡ None
+ClimbsAbove path = place_of path ≡ None
 
--- P holds of the target, which has a place from the top
+-- P holds of the path, which has a place from the top
 abbrev pub BelowTop : (List Step → Type 0) → List Step → Type 0
-BelowTop P target = (place_of target ≢ None) × P target
+BelowTop P path = (place_of path ≢ None) × P path
 
--- no list leads from the new directory of the file of move i to the target
+-- no list leads to the path from the new directory of the file of move i
 abbrev pub IsBeyond : List Move → ℕ → List Step → Type 0
-IsBeyond moves i target = ¬ IsReachable (directory (move_at moves i).new) target
+IsBeyond moves i path = ¬ IsReachable (directory (move_at moves i).new) path
 
--- the text spells the shortest list that leads from the new directory of the file of move i to the target
+-- the text spells the shortest list that leads to the path from the new directory of the file of move i
 abbrev pub IsMovedText : List Move → ℕ → List ℕ → List Step → Type 0
-IsMovedText moves i text target = IsShortestText (directory (move_at moves i).new) target text
+IsMovedText moves i text path = IsShortestText (directory (move_at moves i).new) path text

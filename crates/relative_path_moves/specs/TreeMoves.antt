@@ -1,10 +1,13 @@
 -- Moves of files and directories: a move of a directory is a move of all below it.
-use Rattle.std.specs.Prelude.{◌≡◌, ◌⊎◌, ◌<◌, ◌≤◌, ℕ, List, ◌++◌, map, length, take, slice_index_or, [], Option, Some, None}
+use Rattle.std.specs.Prelude.{◌≡◌, ◌⊎◌, ◌<◌, ◌≤◌, ℕ, List, ◌++◌, map, length, take, Option, Some, None}
 use Rattle.relative_path.specs.Steps.{Step, name}
-use Rattle.relative_path.specs.Normalizing.{IsNormalTextOf}
 use Rattle.relative_path.specs.Walk.{place_of}
 use Rattle.relative_path_places.specs.PlaceIndex.{IsFirstAt, IsNoneAt}
-use Rattle.relative_path_moves.specs.Moves.{Move, move_at, AreNamed, AreApart}
+use Rattle.relative_path.specs.declared.path.RelativePath.{RelativePath}
+use Rattle.relative_path_moves.specs.declared.moves.Move as declared
+use Rattle.relative_path_moves.specs.declared.tree_moves.Side.{Side}
+use Rattle.relative_path_moves.specs.declared.tree_moves.Side.TheVariants.{Old, New}
+use Rattle.relative_path_moves.specs.Moves.{Move, move_at, turned}
 
 -- the old path of move number j leads to the place or to a directory above it, and these names lead on to the place
 pub record TakesAlong (moves : List Move) (place : List (List ℕ)) (j : ℕ) (below : List (List ℕ)) : Type 0 where
@@ -18,14 +21,14 @@ pub record IsNearest (moves : List Move) (place : List (List ℕ)) (j : ℕ) (be
   pub takes : TakesAlong moves place j below
   pub nearest : (k : ℕ) (others : List (List ℕ)) → TakesAlong moves place k others → length below ≤ length others
 
--- the target of a file with a place is the new path of the nearest move, followed by the names below its old path
-pub record IsTakenTo (moves : List Move) (file target : List Step) : Type 0 where
+-- a file with a place is at the new path of the nearest move, followed by the names below its old path
+pub record IsTakenTo (moves : List Move) (file path : List Step) : Type 0 where
   pub place : List (List ℕ)
   pub leads : place_of file ≡ Some place
   pub move : ℕ
   pub below : List (List ℕ)
   pub nearest : IsNearest moves place move below
-  pub new : target ≡ (move_at moves move).new ++ map name below
+  pub new : path ≡ (move_at moves move).new ++ map name below
 
 -- no move takes the file along, or it has no place from the top
 abbrev pub IsLeftInPlace : List Move → List Step → Type 0
@@ -33,27 +36,26 @@ IsLeftInPlace moves file = (place : List (List ℕ)) (j : ℕ) (below : List (Li
     → ¬ TakesAlong moves place j below
 
 -- where a file is after the moves: where the nearest move takes it, and otherwise where it was
-abbrev pub IsTreeTarget : List Move → List Step → List Step → Type 0
-IsTreeTarget moves file target = IsTakenTo moves file target ⊎ IsLeftInPlace moves file × (target ≡ file)
+abbrev pub IsTreePath : List Move → List Step → List Step → Type 0
+IsTreePath moves file path = IsTakenTo moves file path ⊎ IsLeftInPlace moves file × (path ≡ file)
 
 -- P holds of where a file is after the moves
 abbrev pub AtTreePath : List Move → List Step → (List Step → Type 0) → Type 0
-AtTreePath moves file P = (target : List Step) × IsTreeTarget moves file target × P target
+AtTreePath moves file P = (path : List Step) × IsTreePath moves file path × P path
 
--- P holds of where the target of a reference is after the moves; the reference leads from a directory before the moves
-abbrev pub AtTreeTarget : List Move → List Step → List Step → (List Step → Type 0) → Type 0
-AtTreeTarget moves directory reference P = AtTreePath moves (directory ++ reference) P
+-- P holds of where the file is after the moves to which a reference leads from a directory before them
+abbrev pub AtTreeFile : List Move → List Step → List Step → (List Step → Type 0) → Type 0
+AtTreeFile moves directory reference P = AtTreePath moves (directory ++ reference) P
 
--- the texts are the normal texts of the new paths of the moves, in order
-pub record HaveNewTexts (moves : List Move) (texts : List (List ℕ)) : Type 0 where
-  pub count : length texts ≡ length moves
-  pub each : (k : ℕ) → k < length moves → IsNormalTextOf (move_at moves k).new (slice_index_or texts k [])
+-- the moves by these paths of theirs: as they are by their old paths, and turned by their new ones
+abbrev pub by_side : Side → List Move → List Move
+by_side Old moves = moves
+by_side New moves = turned moves
 
--- the moves have file names, no two have the same old path, and the texts are the normal texts of their new paths, in order
-pub record IsSoundTree (moves : List Move) (texts : List (List ℕ)) : Type 0 where
-  pub named : AreNamed moves
-  pub apart : AreApart moves
-  pub news : HaveNewTexts moves texts
+-- the path of a move
+abbrev pub path_on : Side → declared.Move → RelativePath
+path_on Old move = move.old
+path_on New move = move.new
 
 -- of the first n components, the number is that of the old path that has the most of them; `None` if no old path has
 abbrev pub NearestUpTo : List (List Step) → List Step → ℕ → Option ℕ → Type 0

@@ -55,9 +55,9 @@ impl From<AllocError> for MoveTableError {
 /// ```
 #[derive(Clone, Copy, Debug, PartialEq, Eq)]
 pub enum ReferenceError {
-    /// After the moves the target is above the root.
+    /// After the moves the file to which the reference leads is above the root.
     AboveRoot,
-    /// No path leads from the file's new directory to the target.
+    /// No path leads there from the new directory of the file with the reference.
     NoPath,
     /// An allocation failed.
     OutOfMemory,
@@ -98,9 +98,9 @@ pub enum MoveError {
     NoFileName(usize),
     /// The lexicographically first two moves whose old paths lead to the same place from every base.
     SameOld(usize, usize),
-    /// After the moves the target is above the root.
+    /// After the moves the file to which the reference leads is above the root.
     AboveRoot,
-    /// No path leads from the file's new directory to the target.
+    /// No path leads there from the new directory of the file with the reference.
     NoPath,
     /// An allocation failed. By then both paths of each move were seen to have a file name.
     OutOfMemory,

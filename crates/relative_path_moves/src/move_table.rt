@@ -13,23 +13,21 @@ ghost use Rattle.relative_path_moves.specs.Moves.{
   IsFirstPair,
   AreApart,
   IsUnmoved,
-  IsTarget,
-  ForTarget,
-  ForTargetOfLink,
+  IsPathAfter,
+  ForFile,
+  ForFileOfLink,
   ClimbsAbove,
   BelowTop,
   IsBeyond,
   IsMovedText,
 };
 ghost use Rattle.relative_path_moves.specs.MoveError.{Refuses};
-ghost use Rattle.relative_path_moves.specs.MoveTable.{olds_of, IsSound, IsWay, IsShortestBuffer, IsLink, LeadToTarget};
-ghost use Rattle.relative_path_places.specs.PlaceIndex.{Indexes, IsFoundAt};
-ghost use Rattle.relative_path_places.specs.Views.{view_components};
-ghost use Rattle.relative_path_moves.specs.TreeMoves.{HaveNewTexts};
+ghost use Rattle.relative_path_moves.specs.MoveTable.{olds_of, IsSound, IsWay, IsShortestBuffer, IsLink, LeadToFile};
+ghost use Rattle.relative_path_places.specs.PlaceIndex.{Indexes};
 
 use crate::move_error::{MoveTableError, ReferenceError};
 use relative_path::{RelativePath, RelativePathBuf};
-use relative_path_places::{NormalPath, NormalView, PlaceIndex, directory, has_place};
+use relative_path_places::{NormalPath, PlaceIndex, directory, has_place};
 use std::alloc::{AllocError, Global};
 use std::marker::Model;
 
@@ -151,9 +149,8 @@ impl<'a> MoveTable<'a> {
     /// a *path* here, without scheme, query, fragment and percent signs: a percent sign is a byte of a
     /// name. For the targets of the links of a page call `rewrite_links` of the crate `relative_path_links`.
     ///
-    /// The result is the shortest path from the file's new directory to the target of the reference. The
-    /// target is the place where the reference led before the moves; if that is the old path of a move,
-    /// the target is its new path.
+    /// The result is the shortest path from the file's new directory to where the reference leads. This is the
+    /// place where it led before the moves, or the new path of a move if that is its old path.
     ///
     /// The call allocates what `join_normalized` and `try_relative` do. It fails with `OutOfMemory` only if
     /// one of these allocations fails.
@@ -174,20 +171,20 @@ impl<'a> MoveTable<'a> {
         reference: RelativePath<'_>,
     ) -> Result<RelativePathBuf, ReferenceError>
         requires { i < length self.now }
-        // `AboveRoot` exactly for a target above the root, given memory
+        // `AboveRoot` exactly for a file above the root, given memory
         ensures above_root { Refuses result ReferenceError.AboveRoot ReferenceError.OutOfMemory
-            (ForTarget self.now i (path_components reference.entry) ClimbsAbove) }
-        // `NoPath` exactly for an unreachable target in the root, given memory
+            (ForFile self.now i (path_components reference.entry) ClimbsAbove) }
+        // `NoPath` exactly for an unreachable file in the root, given memory
         ensures no_path { Refuses result ReferenceError.NoPath ReferenceError.OutOfMemory
-            (ForTarget self.now i (path_components reference.entry) (BelowTop (IsBeyond self.now i))) }
-        // the shortest path from the new directory to the target
+            (ForFile self.now i (path_components reference.entry) (BelowTop (IsBeyond self.now i))) }
+        // the shortest path from the new directory to the file
         ensures shortest { IfOk result (λ way.
-            ForTarget self.now i (path_components reference.entry)
+            ForFile self.now i (path_components reference.entry)
             (BelowTop (IsMovedText self.now i way.text))) }
     {
         let (old, new) = self.paths(i);
         let meant = NormalPath::of_joined(alloc, directory(old), reference)?;
-        way_or_refusal(alloc, directory(new), self.target(&meant))
+        way_or_refusal(alloc, directory(new), self.file_of(&meant))
     }
 
     /// Returns what a reference becomes in the page that was at this path before the moves. The page
@@ -195,9 +192,9 @@ impl<'a> MoveTable<'a> {
     /// signs: a percent sign is a byte of a name. For the targets of the links of a page call `rewrite_links`
     /// of the crate `relative_path_links`.
     ///
-    /// Fails with `AboveRoot` if the target is above the root, also if the reference still leads there. For
-    /// any other target, returns `None` if the reference, as it is written, still leads from the page's new
-    /// directory to its target. Otherwise the result is the path that [`MoveTable::moved`] describes. So a
+    /// Fails with `AboveRoot` if the reference leads above the root, also if it still leads there. Otherwise
+    /// returns `None` if the reference, as it is written, still leads from the page's new
+    /// directory to its file. Otherwise the result is the path that [`MoveTable::moved`] describes. So a
     /// caller that rewrites a page changes only the references that the moves broke. In a page that stays,
     /// these are the references to files that moved.
     ///
@@ -219,26 +216,26 @@ impl<'a> MoveTable<'a> {
         page: RelativePath<'_>,
         reference: RelativePath<'_>,
     ) -> Result<Option<RelativePathBuf>, ReferenceError>
-        // `AboveRoot` exactly for a target above the root, given memory
+        // `AboveRoot` exactly for a file above the root, given memory
         ensures above_root { Refuses result ReferenceError.AboveRoot ReferenceError.OutOfMemory
-            (ForTargetOfLink self.now (path_components page.entry) (path_components reference.entry)
+            (ForFileOfLink self.now (path_components page.entry) (path_components reference.entry)
             (λ _. ClimbsAbove)) }
-        // `NoPath` exactly for an unreachable target in the root, given memory
+        // `NoPath` exactly for an unreachable file in the root, given memory
         ensures no_path { Refuses result ReferenceError.NoPath ReferenceError.OutOfMemory
-            (ForTargetOfLink self.now (path_components page.entry) (path_components reference.entry)
-            (λ directory. BelowTop (λ target. ¬ IsReachable directory target))) }
-        // `None` exactly if the reference still leads to its target
+            (ForFileOfLink self.now (path_components page.entry) (path_components reference.entry)
+            (λ directory. BelowTop (λ path. ¬ IsReachable directory path))) }
+        // `None` exactly if the reference still leads to its file
         ensures stays { IfOk result (λ way. IsNone way
-            ↔ ForTargetOfLink self.now (path_components page.entry) (path_components reference.entry)
+            ↔ ForFileOfLink self.now (path_components page.entry) (path_components reference.entry)
             (λ directory. Leads directory (path_components reference.entry))) }
-        // the shortest path from the new directory to the target
+        // the shortest path from the new directory to the file
         ensures shortest { IfOk result (λ way. IfSome way (λ way.
-            ForTargetOfLink self.now (path_components page.entry) (path_components reference.entry)
-            (λ directory. BelowTop (λ target. IsShortestText directory target way.text)))) }
+            ForFileOfLink self.now (path_components page.entry) (path_components reference.entry)
+            (λ directory. BelowTop (λ path. IsShortestText directory path way.text)))) }
     {
         let now = self.path_after(alloc, page)?;
         let meant = NormalPath::of_joined(alloc, directory(page), reference)?;
-        link_to(alloc, directory(now), reference, self.target(&meant))
+        link_to(alloc, directory(now), reference, self.file_of(&meant))
     }
 
     /// Returns the path of a file after the moves. If the path leads where the old path of a move leads,
@@ -259,8 +256,8 @@ impl<'a> MoveTable<'a> {
         file: RelativePath<'b>,
     ) -> Result<RelativePath<'b>, AllocError>
         // the components of the file's path after the moves
-        ensures target { IfOk result (λ now. (target : List Step)
-            → IsTarget self.now (path_components file.entry) target ↔ (target ≡ path_components now)) }
+        ensures path { IfOk result (λ now. (path : List Step)
+            → IsPathAfter self.now (path_components file.entry) path ↔ (path ≡ path_components now)) }
         // a file that doesn't move keeps its path's text
         ensures kept { IfOk result (λ now. IsUnmoved self.now (path_components file.entry)
             → path_text now ≡ path_text file.entry) }
@@ -272,15 +269,8 @@ impl<'a> MoveTable<'a> {
         }
     }
 
-    // Returns the number of the move whose old path has this normal form.
-    pub(crate) fn move_from(&self, place: NormalView<'_>) -> Option<usize>
-        ensures { IsFoundAt (olds_of self.now) (view_components place.entry) result }
-    {
-        self.by_old.get_view(place)
-    }
-
     // Returns the old and the new path of a move.
-    pub(crate) fn paths(&self, i: usize) -> (RelativePath<'a>, RelativePath<'a>)
+    fn paths(&self, i: usize) -> (RelativePath<'a>, RelativePath<'a>)
         requires { i < length self.now }
         ensures old { path_components result.0 ≡ (move_at self.now i).old }
         ensures new { path_components result.1 ≡ (move_at self.now i).new }
@@ -290,9 +280,9 @@ impl<'a> MoveTable<'a> {
     }
 
     // Returns the path, after the moves, of the file at a place.
-    fn target<'b>(&'b self, place: &'b NormalPath) -> RelativePath<'b>
+    fn file_of<'b>(&'b self, place: &'b NormalPath) -> RelativePath<'b>
         ensures { (cs : List Step) → IsSame cs (components place.now)
-            → LeadToTarget self.now cs (path_components result) }
+            → LeadToFile self.now cs (path_components result) }
     {
         match self.by_old.get(place) {
             Some(j) => self.paths(j).1,
@@ -301,22 +291,8 @@ impl<'a> MoveTable<'a> {
     }
 }
 
-// Returns the normal forms of the new paths of the moves.
-pub(crate) fn new_paths(
-    alloc: Global,
-    moves: &[(RelativePath<'_>, RelativePath<'_>)],
-) -> Result<Vec<NormalPath>, AllocError>
-    ensures { IfOk result (λ news. HaveNewTexts (moves_of moves.now) news.items) }
-{
-    let mut news = Vec::with_capacity(alloc, moves.len())?;
-    for (_, new) in moves {
-        news.push(NormalPath::of(alloc, *new)?)?;
-    }
-    Ok(news)
-}
-
 // Returns the number of the first move whose old or new path has no file name.
-fn first_nameless(moves: &[(RelativePath<'_>, RelativePath<'_>)]) -> Option<usize>
+pub(crate) fn first_nameless(moves: &[(RelativePath<'_>, RelativePath<'_>)]) -> Option<usize>
     ensures { MatchOption result (AreNamed (moves_of moves.now)) (IsFirstNameless (moves_of moves.now)) }
 {
     for (k, (old, new)) in moves.iter().enumerate() {
@@ -347,7 +323,11 @@ fn by_old_path(
 
 // Returns the lexicographically first of two pairs of moves: `pair`, and `first` with `k` if they
 // differ. `k` is greater than both numbers of `pair`.
-fn first_pair(pair: Option<(usize, usize)>, first: usize, k: usize) -> Option<(usize, usize)>
+pub(crate) fn first_pair(
+    pair: Option<(usize, usize)>,
+    first: usize,
+    k: usize,
+) -> Option<(usize, usize)>
     ensures one { k ≤ first → result ≡ pair }
     ensures earlier { IfSome pair (λ earlier. earlier.0 ≤ first → result ≡ pair) }
     ensures later { MatchOption pair (first < k → result ≡ Some (first, k))
@@ -360,43 +340,43 @@ fn first_pair(pair: Option<(usize, usize)>, first: usize, k: usize) -> Option<(u
     }
 }
 
-// Returns the shortest path from a directory to a target. Fails if the target climbs above the root.
+// Returns the shortest path from a directory to a file. Fails if the file climbs above the root.
 fn way_or_refusal(
     alloc: Global,
     directory: RelativePath<'_>,
-    target: RelativePath<'_>,
+    file: RelativePath<'_>,
 ) -> Result<RelativePathBuf, ReferenceError>
-    ensures { IsWay (path_components directory.entry) (path_components target.entry)
-        (IsShortestBuffer (path_components directory.entry) (path_components target.entry)) result }
+    ensures { IsWay (path_components directory.entry) (path_components file.entry)
+        (IsShortestBuffer (path_components directory.entry) (path_components file.entry)) result }
 {
-    if !has_place(target) {
+    if !has_place(file) {
         return Err(ReferenceError::AboveRoot);
     }
     directory
-        .try_relative(alloc, target)?
+        .try_relative(alloc, file)?
         .ok_or(ReferenceError::NoPath)
 }
 
-// Returns the shortest path from a directory to a target, or `None` if the reference leads there. Fails
-// if the target climbs above the root.
+// Returns the shortest path from a directory to a file, or `None` if the reference leads there. Fails
+// if the file climbs above the root.
 fn link_to(
     alloc: Global,
     directory: RelativePath<'_>,
     reference: RelativePath<'_>,
-    target: RelativePath<'_>,
+    file: RelativePath<'_>,
 ) -> Result<Option<RelativePathBuf>, ReferenceError>
-    ensures { IsWay (path_components directory.entry) (path_components target.entry)
+    ensures { IsWay (path_components directory.entry) (path_components file.entry)
         (IsLink (path_components directory.entry) (path_components reference.entry)
-        (path_components target.entry)) result }
+        (path_components file.entry)) result }
 {
-    if target.climb() > 0 {
+    if file.climb() > 0 {
         return Err(ReferenceError::AboveRoot);
     }
     let led = directory.join(alloc, reference)?;
-    if led.as_relative_path().leads_apart(alloc, target)?.is_none() {
+    if led.as_relative_path().leads_apart(alloc, file)?.is_none() {
         return Ok(None);
     }
-    match directory.try_relative(alloc, target)? {
+    match directory.try_relative(alloc, file)? {
         Some(way) => Ok(Some(way)),
         None => Err(ReferenceError::NoPath),
     }

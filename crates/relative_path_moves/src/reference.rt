@@ -7,7 +7,7 @@ ghost use Rattle.relative_path_moves.specs.Moves.{
   AreNamed,
   IsFirstPair,
   AreApart,
-  ForTarget,
+  ForFile,
   ClimbsAbove,
   BelowTop,
   IsBeyond,
@@ -25,9 +25,9 @@ use std::alloc::Global;
 /// targets of the links of a page call `rewrite_links` of the crate `relative_path_links`.
 ///
 /// A move is the old and the new path of a file, both relative to one root. The reference is in
-/// the file of move number `i`. The result is the shortest path from that file's new directory to the
-/// target of the reference. The target is the place where the reference led before the moves; if that is
-/// the old path of a move, the target is its new path.
+/// the file of move number `i`. The result is the shortest path from that file's new directory to where
+/// the reference leads. This is the place where it led before the moves, or the new path of a move if that
+/// is its old path.
 ///
 /// Two moves may have the same new path, and a new path may be that of a file that stays.
 ///
@@ -57,21 +57,21 @@ pub fn moved(
     // `SameOld` exactly for the first two equivalent old paths, given file names and memory
     ensures same_old { (j k : ℕ) → Refuses result (MoveError.SameOld j k) MoveError.OutOfMemory
         (AreNamed (moves_of moves.now) × IsFirstPair (moves_of moves.now) j k) }
-    // `AboveRoot` exactly for a target above the root, given a table and memory
+    // `AboveRoot` exactly for a file above the root, given a table and memory
     ensures above_root { Refuses result MoveError.AboveRoot MoveError.OutOfMemory
         (AreNamed (moves_of moves.now) × AreApart (moves_of moves.now)
-        × ForTarget (moves_of moves.now) i (path_components reference.entry) ClimbsAbove) }
-    // `NoPath` exactly for an unreachable target in the root, given a table and memory
+        × ForFile (moves_of moves.now) i (path_components reference.entry) ClimbsAbove) }
+    // `NoPath` exactly for an unreachable file in the root, given a table and memory
     ensures no_path { Refuses result MoveError.NoPath MoveError.OutOfMemory
         (AreNamed (moves_of moves.now) × AreApart (moves_of moves.now)
-        × ForTarget (moves_of moves.now) i (path_components reference.entry)
+        × ForFile (moves_of moves.now) i (path_components reference.entry)
         (BelowTop (IsBeyond (moves_of moves.now) i))) }
     // `OutOfMemory` only if each path has a file name
     ensures out_of_memory { IsErrOf result MoveError.OutOfMemory → AreNamed (moves_of moves.now) }
-    // the shortest path from the new directory to the target
+    // the shortest path from the new directory to the file
     ensures shortest { IfOk result (λ way. AreNamed (moves_of moves.now)
         × AreApart (moves_of moves.now)
-        × ForTarget (moves_of moves.now) i (path_components reference.entry)
+        × ForFile (moves_of moves.now) i (path_components reference.entry)
         (BelowTop (IsMovedText (moves_of moves.now) i way.text))) }
 {
     Ok(MoveTable::new(alloc, moves)?.moved(alloc, i, reference)?)

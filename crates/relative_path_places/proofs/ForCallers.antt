@@ -3,6 +3,9 @@ use Rattle.std.proofs.Common.{◌≡◌, ℕ, List, ◌++◌, map}
 use Rattle.relative_path.specs.Steps.{Step, name, components}
 use Rattle.relative_path.specs.Walk.{IsSame}
 use Rattle.relative_path.specs.Normalizing.{AreNames, IsNormal, IsNormalText, IsNormalTextOf}
+use Rattle.relative_path.proofs.ForCallers.{IsSame-refl}
+use Rattle.relative_path_places.specs.Views.{view_text, view_components}
+use Rattle.relative_path_places.specs.declared.normal_view.NormalView.{NormalView}
 use Rattle.relative_path_places.proofs.NormalPathLemmas as normal
 
 -- a list of names is made from the names
@@ -21,3 +24,13 @@ normal_unique = normal.normal_unique
 pub IsNormalTextOf-same : (cs : List Step) (text : List ℕ) → IsNormalText text → IsSame cs (components text)
     → IsNormalTextOf cs text
 IsNormalTextOf-same = normal.IsNormalTextOf-same
+
+-- the text of a view of a normal path is normal
+pub IsNormalText-view : (view : NormalView) → IsNormalText (view_text view)
+IsNormalText-view view = record { spelled = view.spelled; normal = view.normal }
+
+-- and is the normal text of its components
+pub IsNormalTextOf-view : (view : NormalView) → IsNormalTextOf (view_components view) (view_text view)
+IsNormalTextOf-view view =
+    normal.IsNormalTextOf-same (view_components view) (view_text view) (IsNormalText-view view)
+    (IsSame-refl (view_components view))

@@ -6,15 +6,14 @@ ghost use Rattle.std.specs.Fmt.{debug_str};
 ghost use Rattle.std.specs.Bool.{nat_eq};
 ghost use Rattle.relative_path.specs.Steps.{components};
 ghost use Rattle.relative_path.specs.Walk.{IsSame, place_of};
-ghost use Rattle.relative_path.specs.Editing.{IsPopped};
 ghost use Rattle.relative_path.specs.Normalizing.{IsNormalText, IsNormalTextOf};
 ghost use Rattle.relative_path.specs.RelativePath.{path_text, path_components};
 ghost use Rattle.relative_path_places.specs.Places.{directory};
-ghost use Rattle.relative_path_places.specs.Views.{view_text, name_components};
+ghost use Rattle.relative_path_places.specs.Views.{view_text, view_components, name_components};
 
 use crate::name_path::NamePath;
 use crate::normal_view::NormalView;
-use crate::places::{directory, has_place};
+use crate::places::has_place;
 use crate::way::push_components;
 use relative_path::{RelativePath, RelativePathBuf};
 use std::alloc::{AllocError, Global};
@@ -140,19 +139,18 @@ impl NormalPath {
         NormalView::of_normal(self.as_relative_path())
     }
 
-    /// Returns the directory of a file with this path, as [`directory`] does. Allocates nothing.
+    /// Returns the directory of a file with this path, as [`directory`](crate::directory) does. Allocates nothing.
     ///
     /// ```
     /// let page = NormalPath::of(alloc, RelativePath::new("docs/./a.md"))?;
-    /// assert_eq!(rt; page.directory().as_str(), "docs");
+    /// assert_eq!(rt; page.directory().as_relative_path().as_str(), "docs");
     /// ```
-    pub fn directory(&self) -> RelativePath<'_>
+    pub fn directory(&self) -> NormalView<'_>
         // the components of the directory
-        ensures components { path_components result ≡ directory (components self.now) }
-        // the shortest prefix with the directory's components
-        ensures text { IsPopped self.now (path_text result) }
+        ensures { view_components result ≡ directory (components self.now) }
     {
-        directory(self.as_relative_path())
+        let path = self.view();
+        path.parent().unwrap_or(path)
     }
 
     /// Returns whether the path leads to a place from the top, as [`has_place`](crate::has_place) does.
@@ -181,6 +179,39 @@ impl NormalPath {
         ensures normal { IsNormalText self.now }
     {
         self.path.as_relative_path()
+    }
+
+    /// Returns a copy of the normal path that a view shows. It isn't normalised again.
+    ///
+    /// Allocates once, the copy, and fails only if that allocation fails.
+    ///
+    /// ```
+    /// let path = NormalPath::of(alloc, RelativePath::new("./docs//a.md"))?;
+    /// let above = path.view().parent().ok_or("a directory")?;
+    /// assert_eq!(rt; NormalPath::of_view(alloc, above)?.as_relative_path().as_str(), "docs");
+    /// ```
+    pub fn of_view(alloc: Global, view: NormalView<'_>) -> Result<NormalPath, AllocError>
+        ensures { IfOk result (λ path. path ≡ view_text view.entry) }
+    {
+        let path = view.as_relative_path().to_relative_path_buf(alloc)?;
+        Ok(NormalPath { path })
+    }
+
+    /// Returns a copy of the normal path. It isn't normalised again.
+    ///
+    /// Allocates once, the copy, and fails only if that allocation fails.
+    ///
+    /// ```
+    /// let path = NormalPath::of(alloc, RelativePath::new("a/./b"))?;
+    /// assert!(rt; path.copy(alloc)? == path);
+    /// ```
+    pub fn copy(&self, alloc: Global) -> Result<NormalPath, AllocError>
+        // the same text
+        ensures same { IfOk result (λ copy. copy ≡ self.now) }
+        // the normal text of its own components
+        ensures normal { IfOk result (λ copy. IsNormalTextOf (components self.now) copy) }
+    {
+        NormalPath::of_view(alloc, self.view())
     }
 
     /// Returns the text in a buffer, with its memory. Allocates nothing.

@@ -2,6 +2,7 @@
 ghost use Rattle.std.specs.Prelude.{◌≡◌, ◌<◌, ◌++◌, ℕ, [], ◌∷◌, List, length, IfOk, IfSome, OnOk, OnErr};
 ghost use Rattle.relative_path.specs.Steps.{Step, components};
 ghost use Rattle.relative_path.specs.Walk.{IsSame};
+ghost use Rattle.relative_path.specs.Normalizing.{IsNormalText, IsNormalTextOf};
 ghost use Rattle.relative_path.specs.RelativePath.{path_components};
 ghost use Rattle.relative_path_places.specs.PlaceIndex.{Indexes, IsFirstAt, IsFoundAt};
 ghost use Rattle.relative_path_places.specs.Views.{view_components};
@@ -76,7 +77,36 @@ impl PlaceIndex {
         ensures err { OnErr result ((paths : List (List Step))
             → Indexes paths self.old → Indexes paths self.new) }
     {
-        let text = path.normalize(alloc)?.into_string();
+        self.insert_normal(NormalPath::of(alloc, path)?, number)
+    }
+
+    /// Inserts a normal path, as [`PlaceIndex::insert`] inserts a path, and keeps its text.
+    ///
+    /// Allocates an entry if no earlier path is equivalent. Fails only if an allocation fails; the index then has the
+    /// paths that it had.
+    ///
+    /// ```
+    /// let mut index = PlaceIndex::new(alloc);
+    /// let [one, other] = ["a/b", "c/../a//b"].map(RelativePath::new);
+    /// assert_eq!(rt; index.insert_normal(NormalPath::of(alloc, one)?, 0)?, 0);
+    /// assert_eq!(rt; index.insert_normal(NormalPath::of(alloc, other)?, 1)?, 0);
+    /// ```
+    pub fn insert_normal(&mut self, path: NormalPath, number: usize) -> Result<usize, AllocError>
+        // the index has this path too, if `number` counts those before
+        ensures indexes { OnOk result ((paths : List (List Step)) (cs : List Step)
+            → Indexes paths self.old → length paths ≡ number → IsNormalTextOf cs path
+            → Indexes (paths ++ cs ∷ []) self.new) }
+        // the number of the first equivalent path, if `number` counts those before
+        ensures first { IfOk result (λ first. (paths : List (List Step)) (cs : List Step)
+            → Indexes paths self.old → length paths ≡ number → IsNormalTextOf cs path
+            → IsFirstAt (paths ++ cs ∷ []) cs first) }
+        // the text is normal
+        ensures normal { IsNormalText path }
+        // after an error: the same paths
+        ensures err { OnErr result ((paths : List (List Step))
+            → Indexes paths self.old → Indexes paths self.new) }
+    {
+        let text = path.into_relative_path_buf().into_string();
         Ok(*self.by_text.entry(text)?.or_insert(number))
     }
 

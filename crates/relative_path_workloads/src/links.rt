@@ -60,10 +60,10 @@ pub(crate) fn move_files(
 }
 
 // Plans moves, and adds what the plan is.
-pub(crate) fn plan(
+pub(crate) fn plan<'t>(
     rt: &HostRuntime,
-    tree: &Tree,
-    moves: &[(String, String)],
+    tree: &'t Tree,
+    moves: &'t [(String, String)],
     digest: &mut Digest,
 ) -> io::Result<()> {
     let mut pairs = Vec::with_capacity(rt.alloc(), moves.len())?;
@@ -115,7 +115,7 @@ fn place_after(here: Position, text: &str) -> Position {
 }
 
 // Adds what a plan is.
-fn add_moving(tree: &Tree, moving: &Moving<'_>, digest: &mut Digest) {
+fn add_moving(tree: &Tree, moving: &Moving<'_, '_>, digest: &mut Digest) {
     let news = &moving.plan.pages;
     for (page, new) in tree.pages.iter().zip(news) {
         let text = new.text.as_ref().unwrap_or(&page.text);
@@ -134,21 +134,21 @@ fn add_moving(tree: &Tree, moving: &Moving<'_>, digest: &mut Digest) {
         digest.add_number(link.position.column);
         digest.add(link.target);
     }
-    let steps = &moving.plan.steps;
-    for text in &steps.texts {
+    let actions = &moving.plan.actions;
+    for text in &actions.texts {
         digest.add(text.page.as_str());
         digest.add(text.file.as_str());
         digest.add(text.text.as_str());
     }
-    for rename in steps.apart.iter().chain(&steps.together) {
+    for rename in actions.staged.iter().chain(&actions.placed) {
         digest.add(rename.from.as_str());
         digest.add(rename.to.as_str());
     }
-    for path in steps
+    for path in actions
         .made
         .iter()
-        .chain(&steps.removed)
-        .chain(&steps.emptied)
+        .chain(&actions.removed)
+        .chain(&actions.emptied)
     {
         digest.add(path.as_str());
     }

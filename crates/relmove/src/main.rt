@@ -36,14 +36,15 @@ fn run(rt: &HostRuntime) -> io::Result<u8> {
         .iter()
         .map(|word| word.as_str())
         .collect::<Vec<_>>(rt.alloc())?;
+    let mut input = rt.stdin();
     let mut out = BufWriter::new(rt.alloc(), io::writer(rt))?;
     let mut errors = rt.stderr();
     let status = if errors.is_terminal() {
         let progress = Progress::new();
         let watched = WithProgress::new(rt, &progress);
-        answer(&watched, &words, &mut out, &mut errors)
+        answer(&watched, &words, &mut input, &mut out, &mut errors)
     } else {
-        answer(rt, &words, &mut out, &mut errors)
+        answer(rt, &words, &mut input, &mut out, &mut errors)
     };
     Ok(status.code())
 }

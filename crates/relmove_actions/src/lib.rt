@@ -2,8 +2,8 @@
 //! returns what is to be done, and the run carries it out.
 #![tactic(auto)]
 
+pub use self::actions::{Actions, NewText, Rename};
 pub use self::names::{RESERVED, STAGING};
-pub use self::steps::{NewText, Rename, Steps};
 
+mod actions;
 mod names;
-mod steps;

@@ -1,21 +1,18 @@
 -- Entries of a kind above a path, after the moves: found from the path upwards.
 use Rattle.std.proofs.Common.{◌≡◌, ◌≢◌, ℕ, zero, suc, ◌<◌, ◌≤◌, Bool, true, false, true≢false, List, [], ◌∷◌, ◌++◌, map, length, take, get_or, MatchBool, inl, inr, refl, sym, ap, subst, ◌∙◌, append_assoc, take_at, arith}
 use Rattle.std.proofs.lemmas.Bool.{cases_lt, cases_order}
-use Rattle.std.proofs.lemmas.List.{get_or-map, get_or_default, length-append, length-map, nil_from_length}
+use Rattle.std.proofs.lemmas.List.{get_or-map, get_or_default, length-append, length-map}
 use Rattle.std.proofs.lemmas.Option.{slice_get_cases}
 use Rattle.std.proofs.lemmas.Slice.Zip.{AllZip-long}
 use Rattle.std.specs.List.{AllZip}
-use Rattle.relative_path.specs.Slices.{IsFront}
 use Rattle.relative_path.specs.Steps.{Step, components}
 use Rattle.relative_path.specs.Walk.{IsSame}
-use Rattle.relative_path.specs.RelativePath.{path_components}
-use Rattle.relative_path.specs.Normalizing.{IsNormal, IsNormalText}
-use Rattle.relative_path.proofs.ForCallers.{IsNormal-append_left, IsSame-sym, IsSame-trans, spelled-front}
+use Rattle.relative_path.proofs.ForCallers.{IsSame-sym, IsSame-trans}
 use Rattle.relative_path.proofs.OnLiterals.{relative_path_on_literals}
 use Rattle.relative_path_places.specs.declared.place_index.PlaceIndex.{PlaceIndex}
 use Rattle.relative_path_moves.specs.Moves.{Move}
 use Rattle.relative_path_places.specs.PlaceIndex.{IsFirstAt, IsNoneAt, path_at}
-use Rattle.relative_path_moves.proofs.ForCallers.{IsTreeTarget-only}
+use Rattle.relative_path_moves.proofs.ForCallers.{IsTreePath-only}
 use Rattle.relmove_checks.specs.declared.entry.Entry.{Entry}
 use Rattle.relmove_checks.specs.declared.entry.Kind.{Kind}
 use Rattle.relmove_checks.specs.Trees.{IsAfter, IndexesAfter, IsAtAfter, HasAt, HasAbove}
@@ -33,20 +30,6 @@ pub length-components : (text front : List ℕ) (last : Step) → components tex
 length-components text front last is empty =
     let none : components front ≡ [] = ap components empty ∙ components-nil in
     omega (arith, ap length is, length-append (components front) (last ∷ []), ap length none)
-
--- a front with a byte has a component
-pub components-front : (text front : List ℕ) → IsFront text front → front ≢ [] → components front ≢ []
-components-front text front is some none =
-    let shortest = is.shortest 0 (components-nil ∙ sym none ∙ is.same_components) in
-    some (nil_from_length front (omega (arith, shortest)))
-
--- the front of a normal text is normal
-pub IsNormalText-front : (text front : List ℕ) (last : Step) → IsNormalText text
-    → components text ≡ components front ++ last ∷ [] → IsFront text front → IsNormalText front
-IsNormalText-front text front last normal is is_front = record {
-  spelled = spelled-front text front normal.spelled is_front;
-  normal = IsNormal-append_left (components front) (last ∷ []) (subst IsNormal is normal.normal);
-}
 
 -- ---- the walk up from a path
 
@@ -144,7 +127,7 @@ module _ (is_kind : Kind → Bool) (moves : List Move) (entries : List Entry) (i
         let (one, one_is, same) = at.there in
         let (other, other_is, normal) = is_after k entry within is in
         let only : other ≡ one =
-        IsTreeTarget-only moves (path_components entry.path) one other known.apart one_is other_is in
+        IsTreePath-only moves (components entry.path) one other known.apart one_is other_is in
         subst (IsSame cs) (sym (path_of k within))
         (IsSame-trans (IsSame-sym same)
         (subst (λ target. IsSame target (components (get_or known.after k []))) only normal.same))

@@ -3,29 +3,29 @@ use Rattle.std.proofs.Common.{◌≡◌, ◌≢◌, ℕ, ◌<◌, ◌≤◌, ◌
 use Rattle.std.specs.List.{AllZip}
 use Rattle.relative_path.specs.RelativePath.{path_components}
 use Rattle.relative_path.specs.Steps.{Step, components}
-use Rattle.relative_path.specs.declared.path.RelativePath.{RelativePath}
-use Rattle.relative_path_moves.specs.Moves.{Move, moves_of, move_at}
+use Rattle.relative_path_moves.specs.declared.moves.Move as declared
+use Rattle.relative_path_moves.specs.Moves.{Move, written_moves, move_at}
 use Rattle.relmove_checks.specs.Moves.{move_of}
 use Rattle.relmove_checks.proofs.AboveLemmas as above
 use Rattle.relmove_checks.proofs.MovesLemmas as moves
 
 -- ---- moves by their number
 
--- a move is that of its pair of paths
-pub move_at-moves_of : (paths : List (RelativePath × RelativePath)) (k : ℕ) (none : RelativePath × RelativePath)
-    → k < length paths → move_at (moves_of paths) k
-    ≡ move_of (path_components (get_or paths k none).0) (path_components (get_or paths k none).1)
-move_at-moves_of = moves.move_at-moves_of
+-- a move has the components of its paths
+pub move_at-written : (moves : List declared.Move) (k : ℕ) (move : declared.Move) → k < length moves
+    → move ≡ get_or moves k move
+    → move_at (written_moves moves) k ≡ move_of (path_components move.old) (path_components move.new)
+move_at-written = moves.move_at-written
 
--- there are as many moves as pairs of paths
-pub length-moves_of : (paths : List (RelativePath × RelativePath)) → length (moves_of paths) ≡ length paths
-length-moves_of = moves.length-moves_of
+-- and there are as many of the one as of the other
+pub length-written : (moves : List declared.Move) → length (written_moves moves) ≡ length moves
+length-written = moves.length-written
 
 -- if the moves up to one are fine, and this one is too, the moves up to the next are fine
-pub EachMove-next : (Fine : Move → Type 0) (paths : List (RelativePath × RelativePath)) (k : ℕ)
-    (none : RelativePath × RelativePath) → k < length paths → ((j : ℕ) → j < k → Fine (move_at (moves_of paths) j))
-    → Fine (move_of (path_components (get_or paths k none).0) (path_components (get_or paths k none).1))
-    → (j : ℕ) → j < k + 1 → Fine (move_at (moves_of paths) j)
+pub EachMove-next : (Fine : Move → Type 0) (moves : List declared.Move) (k : ℕ) (move : declared.Move) → k < length moves
+    → move ≡ get_or moves k move → ((j : ℕ) → j < k → Fine (move_at (written_moves moves) j))
+    → Fine (move_of (path_components move.old) (path_components move.new))
+    → (j : ℕ) → j < k + 1 → Fine (move_at (written_moves moves) j)
 EachMove-next = moves.EachMove-next
 
 -- ---- components

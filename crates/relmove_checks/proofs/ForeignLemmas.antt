@@ -13,11 +13,11 @@ use Rattle.std.specs.declared.cmp.Ordering.{Ordering}
 use Rattle.relative_path.specs.Comparing.{step_cmp, steps_cmp}
 use Rattle.relative_path.specs.ComparingLaws.{step_comparison, step_eq-Decides, steps_comparison, steps_eq-Decides}
 use Rattle.relative_path.specs.Prefixing.{StartsWith}
-use Rattle.relative_path.specs.RelativePath.{path_components}
-use Rattle.relative_path.specs.Steps.{Step}
+use Rattle.relative_path.specs.RelativePath.{path_components, path_text}
+use Rattle.relative_path.specs.Steps.{Step, components}
 use Rattle.relative_path.specs.declared.path.RelativePath.{RelativePath}
 use Rattle.relmove_checks.specs.declared.entry.Entry.{Entry}
-use Rattle.relmove_checks.specs.Trees.{AreForeignPaths, AreInOrder, HoldsForeignName, HoldsNoForeignName, IsForeignBelow, foreign_directories, is_foreign}
+use Rattle.relmove_checks.specs.Trees.{AreForeignPaths, AreInOrder, HoldsForeignName, HoldsNoForeignName, IsForeignBelow, foreign_directories, holds_foreign_name}
 
 -- ---- lists in order
 
@@ -156,45 +156,47 @@ module _ {X : Type 0} (P : X → Type 0)
 
 module _ (entries : List Entry) (paths : List RelativePath) (are : AreForeignPaths entries paths) (cs : List Step)
   where
-    abbrev path_of : Entry → RelativePath
+    abbrev path_of : Entry → List ℕ
     path_of entry = entry.path
 
-    -- the path is that of an entry that holds such a name
-    abbrev IsOfEntry : RelativePath → Type 0
-    IsOfEntry path = (entry : Entry) × Contains entries entry × (is_foreign entry.kind ≡ true) × (path ≡ entry.path)
+    -- the text is the path of an entry that holds such a name
+    abbrev IsOfEntry : List ℕ → Type 0
+    IsOfEntry text = (entry : Entry) × Contains entries entry × (holds_foreign_name entry.kind ≡ true) × (text ≡ entry.path)
 
-    all_of_entries : All IsOfEntry paths
+    all_of_entries : All IsOfEntry (map path_text paths)
     all_of_entries =
-        All-permutation IsOfEntry (map path_of (foreign_directories entries)) paths are
+        All-permutation IsOfEntry (map path_of (foreign_directories entries)) (map path_text paths) are
         (All-map IsOfEntry path_of (foreign_directories entries)
         (λ k d within. (
           get_or (foreign_directories entries) k d,
-          All-filter (λ (entry : Entry). is_foreign entry.kind) (Contains entries) entries (All-contains_itself entries) k d
+          All-filter (λ (entry : Entry). holds_foreign_name entry.kind) (Contains entries) entries (All-contains_itself entries) k d
               within,
-          filter_passes (λ (entry : Entry). is_foreign entry.kind) entries k d within,
+          filter_passes (λ (entry : Entry). holds_foreign_name entry.kind) entries k d within,
           refl,
         )))
 
     pub HoldsForeignName-paths : Any (λ longer. StartsWith (path_components longer) cs) paths → HoldsForeignName entries cs
     HoldsForeignName-paths (k, path, within, is, begins) =
-        let (entry, (e, inside, here), foreign, path_is) = all_of_entries k path within in (
+        let (entry, (e, inside, here), foreign, path_is) = All-unmap IsOfEntry path_text paths all_of_entries k path within in (
           e,
           entry,
           inside,
           here,
           record {
             foreign = foreign;
-            below = subst (λ longer. StartsWith (path_components longer) cs) (sym is ∙ path_is) begins;
+            below = subst (λ text. StartsWith (components text) cs) (ap path_text (sym is) ∙ path_is) begins;
           },
         )
 
     pub HoldsNoForeignName-paths : All (λ longer. ¬ StartsWith (path_components longer) cs) paths
         → HoldsNoForeignName entries cs
     HoldsNoForeignName-paths none =
-        All-from_filter (λ entry. ¬ IsForeignBelow cs entry) (λ (entry : Entry). is_foreign entry.kind) entries
+        let texts : All (λ text. ¬ StartsWith (components text) cs) (map path_text paths) =
+        All-map (λ text. ¬ StartsWith (components text) cs) path_text paths none in
+        All-from_filter (λ entry. ¬ IsForeignBelow cs entry) (λ (entry : Entry). holds_foreign_name entry.kind) entries
         (λ entry passes_not is. true≢false (sym is.foreign ∙ passes_not))
         (λ k d within is.
-        All-unmap (λ longer. ¬ StartsWith (path_components longer) cs) path_of (foreign_directories entries)
-        (All-permutation (λ longer. ¬ StartsWith (path_components longer) cs) paths
+        All-unmap (λ text. ¬ StartsWith (components text) cs) path_of (foreign_directories entries)
+        (All-permutation (λ text. ¬ StartsWith (components text) cs) (map path_text paths)
         (map path_of (foreign_directories entries))
-        (IsPermutation-sym (map path_of (foreign_directories entries)) paths are) none) k d within is.below)
+        (IsPermutation-sym (map path_of (foreign_directories entries)) (map path_text paths) are) texts) k d within is.below)

@@ -5,14 +5,14 @@ use Rattle.std.proofs.lemmas.Slice.Zip.{all_zipped_more}
 use Rattle.std.proofs.lemmas.List.{get_or-map, get_or-take, length-map, take_more, length-take-le}
 use Rattle.relative_path.specs.Steps.{Step, components}
 use Rattle.relative_path.specs.Walk.{IsSame}
-use Rattle.relative_path.specs.Normalizing.{IsNormalTextOf}
-use Rattle.relative_path.specs.RelativePath.{path_components}
+use Rattle.relative_path.specs.Normalizing.{IsNormalText, IsNormalTextOf}
 use Rattle.relative_path.proofs.ForCallers.{IsSame-refl, IsSame-sym, IsSame-trans}
 use Rattle.relative_path_moves.specs.Moves.{Move}
 use Rattle.relative_path_moves.specs.TreeMoves.{AtTreePath}
 use Rattle.relative_path_places.specs.PlaceIndex.{Indexes, IsFirstAt, IsFoundAt, path_at}
 use Rattle.relative_path_places.specs.declared.place_index.PlaceIndex.{PlaceIndex}
 use Rattle.relmove_checks.specs.declared.entry.Entry.{Entry}
+use Rattle.relative_path_places.proofs.ForCallers.{IsNormalTextOf-same}
 use Rattle.relmove_checks.specs.Trees.{entry_paths, IsThere, IsAfter, AreAfter}
 
 -- what gets another normal path is elsewhere after the moves
@@ -26,18 +26,26 @@ AtTreePath-elsewhere moves cs after place equal (target, is, normal) here compar
   λ same. true≢false (sym (compared.1 (IsSame-trans (IsSame-sym normal.same) (IsSame-trans same here.same))) ∙ differ),
 )
 
+-- what gets its own normal path is there after the moves
+pub AtTreePath-there : (moves : List Move) (cs : List Step) (after place : List ℕ) (equal : Bool)
+    → AtTreePath moves cs (λ target. IsNormalTextOf target after) → IsNormalTextOf cs place
+    → (IsTrue equal ↔ IsSame (components after) (components place)) → equal ≡ true
+    → AtTreePath moves cs (λ target. IsSame target cs)
+AtTreePath-there moves cs after place equal (target, is, normal) here compared same =
+    (target, is, IsSame-trans normal.same (IsSame-trans (compared.0 same) (IsSame-sym here.same)))
+
 -- the paths of the entries up to the next
 pub take_more-entry_paths : (entries : List Entry) (none : Entry) (k : ℕ) → k < length entries
     → take (k + 1) (entry_paths entries)
-    ≡ take k (entry_paths entries) ++ path_components (get_or entries k none).path ∷ []
+    ≡ take k (entry_paths entries) ++ components (get_or entries k none).path ∷ []
 take_more-entry_paths entries none k l =
-    take_more (entry_paths entries) k [] (rw (length-map entries (λ entry. path_components entry.path)) l)
+    take_more (entry_paths entries) k [] (rw (length-map entries (λ entry. components entry.path)) l)
     ∙ ap (λ path. take k (entry_paths entries) ++ path ∷ []) (get_or-map _ entries k none [] l)
 
 pub length-take_entry_paths : (entries : List Entry) (k : ℕ) → k < length entries
     → length (take k (entry_paths entries)) ≡ k
 length-take_entry_paths entries k l =
-    let count = length-map entries (λ entry. path_components entry.path) in
+    let count = length-map entries (λ entry. components entry.path) in
     length-take-le k (entry_paths entries) (omega (arith, l, count))
 
 -- an entry that an index finds is there
@@ -99,15 +107,22 @@ module _ (texts : List (List ℕ)) (k : ℕ) (text : List ℕ) (within : k < len
 
 -- ---- entries, one after another
 
-pub Indexes-entries : (entries : List Entry) (none : Entry) (k : ℕ) (index : PlaceIndex) → k < length entries
-    → Indexes (take k (entry_paths entries) ++ path_components (get_or entries k none).path ∷ []) index
+pub Indexes-entries : (entries : List Entry) (entry : Entry) (k : ℕ) (index : PlaceIndex) → k < length entries
+    → entry ≡ get_or entries k entry → Indexes (take k (entry_paths entries) ++ components entry.path ∷ []) index
     → Indexes (take (k + 1) (entry_paths entries)) index
-Indexes-entries entries none k index l has =
-    subst (λ paths. Indexes paths index) (sym (take_more-entry_paths entries none k l)) has
+Indexes-entries entries entry k index l is has =
+    subst (λ paths. Indexes paths index) (sym (take_more-entry_paths entries entry k l))
+    (subst (λ (entry : Entry). Indexes (take k (entry_paths entries) ++ components entry.path ∷ []) index) is has)
 
-pub AreAfter-next : (moves : List Move) (entries : List Entry) (none : Entry) (texts : List (List ℕ)) (text : List ℕ)
-    (k : ℕ) → k < length entries → AreAfter moves (take k entries) texts → IsAfter moves (get_or entries k none) text
-    → AreAfter moves (take (k + 1) entries) (texts ++ text ∷ [])
-AreAfter-next moves entries none texts text k l before is =
-    rw (take_more entries k none l)
-    (all_zipped_more (IsAfter moves) (take k entries) texts (get_or entries k none) text before is)
+pub AreAfter-next : (moves : List Move) (entries : List Entry) (entry : Entry) (texts : List (List ℕ)) (text : List ℕ)
+    (k : ℕ) → k < length entries → entry ≡ get_or entries k entry → AreAfter moves (take k entries) texts
+    → IsAfter moves entry text → AreAfter moves (take (k + 1) entries) (texts ++ text ∷ [])
+AreAfter-next moves entries entry texts text k l here before is =
+    rw (take_more entries k entry l)
+    (all_zipped_more (IsAfter moves) (take k entries) texts (get_or entries k entry) text before
+    (subst (λ (entry : Entry). IsAfter moves entry text) here is))
+
+-- a normal text is the normal text of its components
+pub IsNormalTextOf-itself : (text : List ℕ) → IsNormalText text → IsNormalTextOf (components text) text
+IsNormalTextOf-itself text normal =
+    IsNormalTextOf-same (components text) text normal (IsSame-refl (components text))

@@ -42,27 +42,27 @@ abbrev pub StaysOutside : Move → Type 0
 StaysOutside = OnNormal (λ old new. ¬ StartsWith new old)
 
 -- the component is a name that begins as those of a run's own files
-abbrev pub is_own_step : Step → Bool
-is_own_step cur = false
-is_own_step up = false
-is_own_step (name n) = starts_with nat_eq n (codes ".relmove")
+abbrev pub is_reserved_step : Step → Bool
+is_reserved_step cur = false
+is_reserved_step up = false
+is_reserved_step (name n) = starts_with nat_eq n (codes ".relmove")
 
 -- any name is allowed, or all names of the components are plain
 abbrev pub HasNames : NameRule → List Step → Type 0
 HasNames rule cs = (rule ≡ Any) ⊎ All (IfName IsPlainName) cs
 
 -- a component is a name that begins as those of a run's own files
-abbrev pub HasOwnName : List Step → Type 0
-HasOwnName cs = list_any is_own_step cs ≡ true
+abbrev pub HasReservedName : List Step → Type 0
+HasReservedName cs = list_any is_reserved_step cs ≡ true
 
 -- no component is such a name
-abbrev pub HasNoOwnName : List Step → Type 0
-HasNoOwnName cs = list_any is_own_step cs ≡ false
+abbrev pub HasNoReservedName : List Step → Type 0
+HasNoReservedName cs = list_any is_reserved_step cs ≡ false
 
 -- the paths of the move may be taken, whatever the tree is
 pub record HasFinePaths (rule : NameRule) (move : Move) : Type 0 where
   pub placed : IsPlaced move
   pub outside : StaysOutside move
   pub names : HasNames rule move.new
-  pub not_own_old : HasNoOwnName move.old
-  pub not_own_new : HasNoOwnName move.new
+  pub not_reserved_old : HasNoReservedName move.old
+  pub not_reserved_new : HasNoReservedName move.new

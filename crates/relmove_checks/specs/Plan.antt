@@ -1,7 +1,7 @@
 -- When moves are accepted, and why they are refused.
 use Rattle.std.specs.Prelude.{◌≡◌, ℕ, List, map}
 use Rattle.relative_path.specs.Steps.{components}
-use Rattle.relative_path_moves.specs.Moves.{Move, AreApart}
+use Rattle.relative_path_moves.specs.Moves.{Move, AreApart, turned}
 use Rattle.relmove_checks.specs.declared.entry.Entry.{Entry}
 use Rattle.relmove_checks.specs.declared.name_rule.NameRule.{NameRule}
 use Rattle.relmove_checks.specs.declared.refused.Barrier.TheVariants.{Files, UnreadDirectories}
@@ -9,7 +9,7 @@ use Rattle.relmove_checks.specs.declared.refusal.Refusal.{Refusal}
 use Rattle.relmove_checks.specs.declared.refusal.Refusal.TheVariants.{NoFreeName, OutOfMemory}
 use Rattle.relmove_checks.specs.Moves.{EachMove, HasFinePaths}
 use Rattle.relmove_checks.specs.Trees.{IsOldFine, IsFree, IsBelowNo, AreAfter, AreDistinct, is_file, is_unread}
-use Rattle.relmove_checks.specs.Refusals.{IsOfFirst, IsPathRefusal, IsOldRefusal, IsNewRefusal, IsTableRefusal, turned, IsSameNewRefusal, IsCollisionRefusal, IsAboveRefusal}
+use Rattle.relmove_checks.specs.Refusals.{IsOfFirst, IsPathRefusal, IsOldRefusal, IsNewRefusal, IsTableRefusal, IsSameNewRefusal, IsCollisionRefusal, IsAboveRefusal}
 
 -- the moves leave from where something is, each from a place of its own
 pub record MayLeave (entries : List Entry) (moves : List Move) (rule : NameRule) : Type 0 where
@@ -31,7 +31,7 @@ pub record StayApart (entries : List Entry) (moves : List Move) (rule : NameRule
   pub distinct : AreDistinct (map components after)
 
 -- and no new path is below what is, after the moves, a file, a symbolic link, or a directory that isn't read
-pub record IsAccepted (entries : List Entry) (moves : List Move) (rule : NameRule) : Type 0 where
+pub record AreAllowed (entries : List Entry) (moves : List Move) (rule : NameRule) : Type 0 where
   pub apart : StayApart entries moves rule
   pub below_no_file : EachMove (λ move. IsBelowNo is_file moves entries move.new) moves
   pub below_no_unread : EachMove (λ move. IsBelowNo is_unread moves entries move.new) moves
@@ -40,7 +40,7 @@ pub record IsAccepted (entries : List Entry) (moves : List Move) (rule : NameRul
 pub record Collide (entries : List Entry) (moves : List Move) (refusal : Refusal) : Type 0 where
   pub after : List (List ℕ)
   pub are_after : AreAfter moves entries after
-  pub refused : IsCollisionRefusal (map components after) refusal
+  pub refused : IsCollisionRefusal entries (map components after) refusal
 
 -- why the moves are refused: the tests in their order, each after those before it hold of all moves
 pub data IsRefused (entries : List Entry) (moves : List Move) (rule : NameRule) (refusal : Refusal) : Type 0 where
@@ -63,7 +63,7 @@ pub data IsRefused (entries : List Entry) (moves : List Move) (rule : NameRule) 
   below_unread : StayApart entries moves rule → EachMove (λ move. IsBelowNo is_file moves entries move.new) moves
       → IsOfFirst (λ move. IsBelowNo is_unread moves entries move.new) (IsAboveRefusal UnreadDirectories moves entries) moves
       refusal → IsRefused entries moves rule refusal
-  names : IsAccepted entries moves rule → refusal ≡ NoFreeName → IsRefused entries moves rule refusal
+  names : AreAllowed entries moves rule → refusal ≡ NoFreeName → IsRefused entries moves rule refusal
   memory : refusal ≡ OutOfMemory → IsRefused entries moves rule refusal
 
 -- why the moves are refused that may leave

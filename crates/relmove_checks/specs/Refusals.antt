@@ -1,5 +1,5 @@
 -- Why moves are refused: the first move that isn't fine, in the first of the tests that it doesn't pass.
-use Rattle.std.specs.Prelude.{◌≡◌, ◌⊎◌, ◌<◌, ℕ, false, List, map, length, ⊤}
+use Rattle.std.specs.Prelude.{◌≡◌, ◌⊎◌, ◌<◌, ℕ, List, length, slice_index_or, ⊤}
 use Rattle.std.specs.List.{All}
 use Rattle.relative_path_files.specs.Names.{IfName, IsPlainName}
 use Rattle.relative_path_moves.specs.Moves.{Move, move_at, LacksFileName, IsFirstPair}
@@ -10,9 +10,9 @@ use Rattle.relmove_checks.specs.declared.name_rule.NameRule.TheVariants.{Plain}
 use Rattle.relmove_checks.specs.declared.refused.Barrier.{Barrier}
 use Rattle.relmove_checks.specs.declared.refused.Barrier.TheVariants.{Files, UnreadDirectories}
 use Rattle.relmove_checks.specs.declared.refusal.Refusal.{Refusal}
-use Rattle.relmove_checks.specs.declared.refusal.Refusal.TheVariants.{NoFileName, LeavesRoot, IntoItself, NotPlain, OwnName, SameOld, NotThere, ForeignName, SameNew, Taken, Collision, BelowFile, BelowUnread, NoFreeName, OutOfMemory}
+use Rattle.relmove_checks.specs.declared.refusal.Refusal.TheVariants.{NoFileName, LeavesRoot, IntoItself, NotPlain, ReservedName, SameOld, NotThere, ForeignName, SameNew, Taken, Collision, BelowFile, BelowUnread, NoFreeName, OutOfMemory}
 use Rattle.relmove_checks.specs.Moves as paths
-use Rattle.relmove_checks.specs.Moves.{EachMove, move_of, IsPlaced, LeadsIntoItself, StaysOutside, HasNames, HasOwnName}
+use Rattle.relmove_checks.specs.Moves.{EachMove, IsPlaced, LeadsIntoItself, StaysOutside, HasNames, HasReservedName}
 use Rattle.relmove_checks.specs.Trees.{IsNotThere, IsOldForeign, IsTaken, IsBelowSome, IsFirstCollision, is_barrier}
 
 -- the refusal is of the first move that isn't fine
@@ -23,17 +23,16 @@ pub record IsOfFirst (Fine : Move → Type 0) (Refused : ℕ → Move → Refusa
   pub before : (j : ℕ) → j < number → Fine (move_at moves j)
   pub here : Refused number (move_at moves number) refusal
 
--- why the paths of move number k are refused by themselves: each test is tried after those above it. A failed
--- allocation says nothing of the move
+-- why the paths of move number k are refused by themselves: each test is tried after those above it
 abbrev pub IsPathRefusal : NameRule → ℕ → Move → Refusal → Type 0
 IsPathRefusal rule k move (NoFileName j) = (j ≡ k) × LacksFileName move
 IsPathRefusal rule k move (LeavesRoot j) = (j ≡ k) × (¬ LacksFileName move) × paths.LeavesRoot move
 IsPathRefusal rule k move (IntoItself j) = (j ≡ k) × IsPlaced move × LeadsIntoItself move
 IsPathRefusal rule k move (NotPlain j) =
     (j ≡ k) × IsPlaced move × StaysOutside move × (rule ≡ Plain) × (¬ All (IfName IsPlainName) move.new)
-IsPathRefusal rule k move (OwnName j) =
+IsPathRefusal rule k move (ReservedName j) =
     (j ≡ k) × IsPlaced move × StaysOutside move × HasNames rule move.new
-    × (HasOwnName move.old ⊎ HasOwnName move.new)
+    × (HasReservedName move.old ⊎ HasReservedName move.new)
 IsPathRefusal rule k move (SameOld i j) = ⊥
 IsPathRefusal rule k move (NotThere j) = ⊥
 IsPathRefusal rule k move (ForeignName j) = ⊥
@@ -43,7 +42,7 @@ IsPathRefusal rule k move (Collision d e) = ⊥
 IsPathRefusal rule k move (BelowFile j) = ⊥
 IsPathRefusal rule k move (BelowUnread j) = ⊥
 IsPathRefusal rule k move NoFreeName = ⊥
-IsPathRefusal rule k move OutOfMemory = ⊤
+IsPathRefusal rule k move OutOfMemory = ⊥
 
 -- why move number k is refused for what is at its old path
 abbrev pub IsOldRefusal : List Entry → ℕ → Move → Refusal → Type 0
@@ -51,7 +50,7 @@ IsOldRefusal entries k move (NoFileName j) = ⊥
 IsOldRefusal entries k move (LeavesRoot j) = ⊥
 IsOldRefusal entries k move (IntoItself j) = ⊥
 IsOldRefusal entries k move (NotPlain j) = ⊥
-IsOldRefusal entries k move (OwnName j) = ⊥
+IsOldRefusal entries k move (ReservedName j) = ⊥
 IsOldRefusal entries k move (SameOld i j) = ⊥
 IsOldRefusal entries k move (NotThere j) = (j ≡ k) × IsNotThere entries move.old
 IsOldRefusal entries k move (ForeignName j) = (j ≡ k) × IsOldForeign entries move.old
@@ -61,7 +60,7 @@ IsOldRefusal entries k move (Collision d e) = ⊥
 IsOldRefusal entries k move (BelowFile j) = ⊥
 IsOldRefusal entries k move (BelowUnread j) = ⊥
 IsOldRefusal entries k move NoFreeName = ⊥
-IsOldRefusal entries k move OutOfMemory = ⊤
+IsOldRefusal entries k move OutOfMemory = ⊥
 
 -- why move number k is refused for what is at its new path
 abbrev pub IsNewRefusal : List Move → List Entry → ℕ → Move → Refusal → Type 0
@@ -69,7 +68,7 @@ IsNewRefusal moves entries k move (NoFileName j) = ⊥
 IsNewRefusal moves entries k move (LeavesRoot j) = ⊥
 IsNewRefusal moves entries k move (IntoItself j) = ⊥
 IsNewRefusal moves entries k move (NotPlain j) = ⊥
-IsNewRefusal moves entries k move (OwnName j) = ⊥
+IsNewRefusal moves entries k move (ReservedName j) = ⊥
 IsNewRefusal moves entries k move (SameOld i j) = ⊥
 IsNewRefusal moves entries k move (NotThere j) = ⊥
 IsNewRefusal moves entries k move (ForeignName j) = ⊥
@@ -87,7 +86,7 @@ IsTableRefusal moves (NoFileName j) = ⊥
 IsTableRefusal moves (LeavesRoot j) = ⊥
 IsTableRefusal moves (IntoItself j) = ⊥
 IsTableRefusal moves (NotPlain j) = ⊥
-IsTableRefusal moves (OwnName j) = ⊥
+IsTableRefusal moves (ReservedName j) = ⊥
 IsTableRefusal moves (SameOld i j) = IsFirstPair moves i j
 IsTableRefusal moves (NotThere j) = ⊥
 IsTableRefusal moves (ForeignName j) = ⊥
@@ -99,17 +98,13 @@ IsTableRefusal moves (BelowUnread j) = ⊥
 IsTableRefusal moves NoFreeName = ⊥
 IsTableRefusal moves OutOfMemory = ⊤
 
--- the moves, turned: each from its new path to its old one
-abbrev pub turned : List Move → List Move
-turned moves = map (λ move. move_of move.new move.old) moves
-
 -- why no table can be made of moves that were turned
 abbrev pub IsSameNewRefusal : List Move → Refusal → Type 0
 IsSameNewRefusal moves (NoFileName j) = ⊥
 IsSameNewRefusal moves (LeavesRoot j) = ⊥
 IsSameNewRefusal moves (IntoItself j) = ⊥
 IsSameNewRefusal moves (NotPlain j) = ⊥
-IsSameNewRefusal moves (OwnName j) = ⊥
+IsSameNewRefusal moves (ReservedName j) = ⊥
 IsSameNewRefusal moves (SameOld i j) = ⊥
 IsSameNewRefusal moves (NotThere j) = ⊥
 IsSameNewRefusal moves (ForeignName j) = ⊥
@@ -121,31 +116,42 @@ IsSameNewRefusal moves (BelowUnread j) = ⊥
 IsSameNewRefusal moves NoFreeName = ⊥
 IsSameNewRefusal moves OutOfMemory = ⊤
 
+-- the two texts are the paths of the entries whose paths after the moves are the first to lead to the same place
+pub record AreOfCollision (entries : List Entry) (paths : List (List Step)) (one other : List ℕ) : Type 0 where
+  pub first : Entry
+  pub second : Entry
+  pub d : ℕ
+  pub e : ℕ
+  pub same : IsFirstCollision paths d e
+  pub is_first : first ≡ slice_index_or entries d first
+  pub is_second : second ≡ slice_index_or entries e second
+  pub one_is : one ≡ first.path
+  pub other_is : other ≡ second.path
+
 -- why the paths after the moves are refused
-abbrev pub IsCollisionRefusal : List (List Step) → Refusal → Type 0
-IsCollisionRefusal paths (NoFileName j) = ⊥
-IsCollisionRefusal paths (LeavesRoot j) = ⊥
-IsCollisionRefusal paths (IntoItself j) = ⊥
-IsCollisionRefusal paths (NotPlain j) = ⊥
-IsCollisionRefusal paths (OwnName j) = ⊥
-IsCollisionRefusal paths (SameOld i j) = ⊥
-IsCollisionRefusal paths (NotThere j) = ⊥
-IsCollisionRefusal paths (ForeignName j) = ⊥
-IsCollisionRefusal paths (SameNew i j) = ⊥
-IsCollisionRefusal paths (Taken j) = ⊥
-IsCollisionRefusal paths (Collision d e) = IsFirstCollision paths d e
-IsCollisionRefusal paths (BelowFile j) = ⊥
-IsCollisionRefusal paths (BelowUnread j) = ⊥
-IsCollisionRefusal paths NoFreeName = ⊥
-IsCollisionRefusal paths OutOfMemory = ⊤
+abbrev pub IsCollisionRefusal : List Entry → List (List Step) → Refusal → Type 0
+IsCollisionRefusal entries paths (NoFileName j) = ⊥
+IsCollisionRefusal entries paths (LeavesRoot j) = ⊥
+IsCollisionRefusal entries paths (IntoItself j) = ⊥
+IsCollisionRefusal entries paths (NotPlain j) = ⊥
+IsCollisionRefusal entries paths (ReservedName j) = ⊥
+IsCollisionRefusal entries paths (SameOld i j) = ⊥
+IsCollisionRefusal entries paths (NotThere j) = ⊥
+IsCollisionRefusal entries paths (ForeignName j) = ⊥
+IsCollisionRefusal entries paths (SameNew i j) = ⊥
+IsCollisionRefusal entries paths (Taken j) = ⊥
+IsCollisionRefusal entries paths (Collision one other) = AreOfCollision entries paths one other
+IsCollisionRefusal entries paths (BelowFile j) = ⊥
+IsCollisionRefusal entries paths (BelowUnread j) = ⊥
+IsCollisionRefusal entries paths NoFreeName = ⊥
+IsCollisionRefusal entries paths OutOfMemory = ⊤
 
 -- the refusal of move number k, if its new path is below such a barrier
 abbrev pub refusal_below : Barrier → ℕ → Refusal
 refusal_below Files = BelowFile
 refusal_below UnreadDirectories = BelowUnread
 
--- why move number k is refused for what is above its new path. A failed allocation says nothing of the move
+-- why move number k is refused for what is above its new path
 abbrev pub IsAboveRefusal : Barrier → List Move → List Entry → ℕ → Move → Refusal → Type 0
 IsAboveRefusal barrier moves entries k move refusal =
-    (refusal ≡ OutOfMemory)
-    ⊎ (refusal ≡ refusal_below barrier k) × IsBelowSome (is_barrier barrier) moves entries move.new
+    (refusal ≡ refusal_below barrier k) × IsBelowSome (is_barrier barrier) moves entries move.new

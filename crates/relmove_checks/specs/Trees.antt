@@ -9,7 +9,7 @@ use Rattle.relative_path.specs.Steps.{Step, components}
 use Rattle.relative_path.specs.Walk.{IsSame}
 use Rattle.relative_path.specs.Normalizing.{IsNormalTextOf}
 use Rattle.relative_path.specs.Prefixing.{StartsWith}
-use Rattle.relative_path.specs.RelativePath.{path_components}
+use Rattle.relative_path.specs.RelativePath.{path_components, path_text}
 use Rattle.relative_path_moves.specs.Moves.{Move, AreApart}
 use Rattle.relative_path_places.specs.PlaceIndex.{Indexes, IsFirstAt, IsNoneAt, path_at}
 use Rattle.relative_path_moves.specs.TreeMoves.{AtTreePath}
@@ -22,7 +22,7 @@ use Rattle.relmove_checks.specs.declared.refused.Barrier.TheVariants.{Files, Unr
 
 -- the components of the paths of the entries
 abbrev pub entry_paths : List Entry → List (List Step)
-entry_paths = map (λ entry. path_components entry.path)
+entry_paths = map (λ entry. components entry.path)
 
 -- an entry is where the components lead
 abbrev pub IsThere : List Entry → List Step → Type 0
@@ -33,10 +33,10 @@ abbrev pub IsNotThere : List Entry → List Step → Type 0
 IsNotThere entries cs = IsNoneAt (entry_paths entries) cs
 
 -- the entry is a directory that holds a name that isn't UTF-8
-abbrev pub is_foreign : Kind → Bool
-is_foreign File = false
-is_foreign (Directory foreign read) = foreign
-is_foreign (Symlink path) = false
+abbrev pub holds_foreign_name : Kind → Bool
+holds_foreign_name File = false
+holds_foreign_name (Directory foreign read) = foreign
+holds_foreign_name (Symlink path) = false
 
 -- the entry is a directory
 abbrev pub is_directory : Kind → Bool
@@ -61,11 +61,12 @@ is_barrier UnreadDirectories = is_unread
 
 -- the entries that hold such a name
 abbrev pub foreign_directories : List Entry → List Entry
-foreign_directories = filter (λ entry. is_foreign entry.kind)
+foreign_directories = filter (λ entry. holds_foreign_name entry.kind)
 
 -- the paths are those of these entries
 abbrev pub AreForeignPaths : List Entry → List RelativePath → Type 0
-AreForeignPaths entries = IsPermutation (map (λ (entry : Entry). entry.path) (foreign_directories entries))
+AreForeignPaths entries paths =
+    IsPermutation (map (λ (entry : Entry). entry.path) (foreign_directories entries)) (map path_text paths)
 
 -- the paths are in the order of their components
 abbrev pub AreInOrder : List RelativePath → Type 0
@@ -73,8 +74,8 @@ AreInOrder = IsSorted (on path_components steps_cmp)
 
 -- the entry is at the components or below them, and holds a name that isn't UTF-8
 pub record IsForeignBelow (cs : List Step) (entry : Entry) : Type 0 where
-  pub foreign : is_foreign entry.kind ≡ true
-  pub below : StartsWith (path_components entry.path) cs
+  pub foreign : holds_foreign_name entry.kind ≡ true
+  pub below : StartsWith (components entry.path) cs
 
 -- an entry at the components or below them holds a name that isn't UTF-8
 abbrev pub HoldsForeignName : List Entry → List Step → Type 0
@@ -86,7 +87,7 @@ HoldsNoForeignName entries cs = All (λ entry. ¬ IsForeignBelow cs entry) entri
 
 -- the text is the normal text of where the entry is after the moves
 abbrev pub IsAfter : List Move → Entry → List ℕ → Type 0
-IsAfter moves entry text = AtTreePath moves (path_components entry.path) (λ target. IsNormalTextOf target text)
+IsAfter moves entry text = AtTreePath moves (components entry.path) (λ target. IsNormalTextOf target text)
 
 -- the texts are the normal paths of the entries after the moves
 abbrev pub AreAfter : List Move → List Entry → List (List ℕ) → Type 0
@@ -124,7 +125,7 @@ pub record IndexesAfter (moves : List Move) (entries : List Entry) (index : Plac
 -- the entry is of this kind, and after the moves it is where the components lead
 pub record IsAtAfter (is_kind : Kind → Bool) (moves : List Move) (cs : List Step) (entry : Entry) : Type 0 where
   pub kind : is_kind entry.kind ≡ true
-  pub there : AtTreePath moves (path_components entry.path) (λ target. IsSame target cs)
+  pub there : AtTreePath moves (components entry.path) (λ target. IsSame target cs)
 
 -- after the moves an entry of this kind is where the components lead
 abbrev pub HasAt : (Kind → Bool) → List Move → List Entry → List Step → Type 0

@@ -1,9 +1,10 @@
 //! Where the entries of a tree are after the moves.
-ghost use Rattle.std.specs.Prelude.{◌≡◌, IfErr, IfOk, OnOk, map};
+ghost use Rattle.std.specs.Prelude.{◌≡◌, IfErr, IfOk, OnOk, length, map};
 ghost use Rattle.relative_path.specs.Steps.{components};
 ghost use Rattle.relative_path_places.specs.PlaceIndex.{Indexes};
 ghost use Rattle.relmove_checks.specs.Trees.{AreAfter, AreDistinct, entry_paths};
 ghost use Rattle.relmove_checks.specs.Refusals.{IsCollisionRefusal};
+ghost use Rattle.relmove_checks.specs.declared.refusal.Refusal.TheVariants.{Collision};
 
 use crate::entry::Entry;
 use crate::refusal::Refusal;
@@ -18,7 +19,8 @@ pub fn entry_index(alloc: Global, entries: &[Entry<'_>]) -> Result<PlaceIndex, A
 {
     let mut index = PlaceIndex::new(alloc);
     for (number, entry) in entries.iter().enumerate() {
-        index.insert(alloc, entry.path, number)?;
+        let path = entry.path.copy(alloc)?;
+        index.insert_normal(path, number)?;
     }
     Ok(index)
 }
@@ -27,29 +29,44 @@ pub fn entry_index(alloc: Global, entries: &[Entry<'_>]) -> Result<PlaceIndex, A
 pub(crate) fn paths_after(
     alloc: Global,
     entries: &[Entry<'_>],
-    tree: &TreeMoves<'_>,
+    moves: &TreeMoves<'_>,
 ) -> Result<Vec<NormalPath>, AllocError>
-    ensures { IfOk result (λ paths. AreAfter tree.now entries.now paths.items) }
+    ensures { IfOk result (λ paths. AreAfter moves.now entries.now paths.items) }
 {
     let mut paths = Vec::with_capacity(alloc, entries.len())?;
     for entry in entries {
-        paths.push(tree.path_after(alloc, entry.path)?)?;
+        paths.push(moves.normal_after(alloc, entry.path.view())?)?;
     }
     Ok(paths)
 }
 
-// Returns the index of these paths, by number. Fails if two of them are equal.
-pub(crate) fn index_after(alloc: Global, paths: &[NormalPath]) -> Result<PlaceIndex, Refusal>
+// Returns the index of the paths of the entries after the moves, by number. Fails if two of them are equal.
+pub(crate) fn index_after(
+    alloc: Global,
+    entries: &[Entry<'_>],
+    paths: &[NormalPath],
+) -> Result<PlaceIndex, Refusal>
+    requires { length paths.now ≡ length entries.now }
     ensures indexes { IfOk result (Indexes (map components paths.now)) }
     ensures distinct { OnOk result (AreDistinct (map components paths.now)) }
-    ensures refused { IfErr result (IsCollisionRefusal (map components paths.now)) }
+    ensures refused { IfErr result (IsCollisionRefusal entries.now (map components paths.now)) }
 {
     let mut index = PlaceIndex::new(alloc);
     for (number, path) in paths.iter().enumerate() {
-        let first = index.insert(alloc, path.as_relative_path(), number)?;
+        let first = index.insert_normal(path.copy(alloc)?, number)?;
         if first < number {
-            return Err(Refusal::Collision(first, number));
+            let refusal = collision(alloc, &entries[first], &entries[number])?;
+            return Err(refusal);
         }
     }
     Ok(index)
+}
+
+// Returns the refusal of two entries that get the same path.
+fn collision(alloc: Global, one: &Entry<'_>, other: &Entry<'_>) -> Result<Refusal, AllocError>
+    ensures { IfOk result (λ refusal. refusal ≡ Collision one.now.path other.now.path) }
+{
+    let one = one.path.copy(alloc)?;
+    let other = other.path.copy(alloc)?;
+    Ok(Refusal::Collision(one, other))
 }

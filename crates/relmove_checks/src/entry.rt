@@ -1,5 +1,6 @@
 //! The entries of a tree of files.
 use relative_path::RelativePath;
+use relative_path_places::NormalPath;
 
 /// What an entry of a tree is.
 #[derive(Clone, Copy, Debug)]
@@ -22,10 +23,10 @@ pub enum Kind<'a> {
 }
 
 /// An entry of a tree: a file, a directory or a symbolic link below its root.
-#[derive(Clone, Copy, Debug)]
+#[derive(Debug, Drop)]
 pub struct Entry<'a> {
-    /// Its normal path from the root.
-    pub path: RelativePath<'a>,
+    /// Its path from the root.
+    pub path: NormalPath,
     /// What it is.
     pub kind: Kind<'a>,
 }

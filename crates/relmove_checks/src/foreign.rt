@@ -2,7 +2,7 @@
 ghost use Rattle.std.specs.Prelude.{◌≡◌, All, Any, IfOk, MatchBool};
 ghost use Rattle.relative_path.specs.Prefixing.{StartsWith};
 ghost use Rattle.relative_path.specs.RelativePath.{path_components};
-ghost use Rattle.relmove_checks.specs.Trees.{AreForeignPaths, AreInOrder, is_foreign};
+ghost use Rattle.relmove_checks.specs.Trees.{AreForeignPaths, AreInOrder, holds_foreign_name};
 
 use crate::entry::{Entry, Kind};
 use relative_path::RelativePath;
@@ -11,15 +11,15 @@ use std::alloc::{AllocError, Global};
 // Returns the paths of the directories that hold a name that isn't UTF-8, in order.
 pub(crate) fn foreign_paths<'a>(
     alloc: Global,
-    entries: &[Entry<'a>],
+    entries: &'a [Entry<'_>],
 ) -> Result<Vec<RelativePath<'a>>, AllocError>
     ensures paths { IfOk result (λ paths. AreForeignPaths entries.now paths.items) }
     ensures order { IfOk result (λ paths. AreInOrder paths.items) }
 {
     let mut paths = Vec::new(alloc);
     for entry in entries {
-        if is_foreign(entry.kind) {
-            paths.push(entry.path)?;
+        if holds_foreign_name(entry.kind) {
+            paths.push(entry.path.as_relative_path())?;
         }
     }
     paths.sort()?;
@@ -27,8 +27,8 @@ pub(crate) fn foreign_paths<'a>(
 }
 
 // Returns whether an entry is a directory that holds a name that isn't UTF-8.
-fn is_foreign(kind: Kind<'_>) -> bool
-    ensures { result ≡ is_foreign kind.entry }
+fn holds_foreign_name(kind: Kind<'_>) -> bool
+    ensures { result ≡ holds_foreign_name kind.entry }
 {
     match kind {
         Kind::Directory {

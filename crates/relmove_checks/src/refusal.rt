@@ -1,19 +1,20 @@
 //! Why moves are refused.
 use relative_path_moves::MoveTableError;
+use relative_path_places::NormalPath;
 use std::alloc::{AllocError, AllocFailed};
 use std::error::Error;
 use std::fmt;
 
-/// Why moves are refused, before anything is done. Moves and entries are numbered from 0.
+/// Why moves are refused, before anything is done. Moves are numbered from 0.
 ///
-/// The refusals are tried in this order. Those of the first group, up to `OwnName`, are tried for one move after
+/// The refusals are tried in this order. Those of the first group, up to `ReservedName`, are tried for one move after
 /// another, and so are `NotThere` and `ForeignName`, and then `Taken`, and then `BelowFile`, and then `BelowUnread`.
 ///
 /// ```
 /// let refusal = Refusal::NotThere(3);
 /// assert_eq!(rt; refusal.to_string(alloc)?.as_str(), "move 3: nothing is at its old path");
 /// ```
-#[derive(Clone, Copy, Debug, PartialEq, Eq)]
+#[derive(Debug, PartialEq, Eq, Drop)]
 pub enum Refusal {
     /// The old or the new path of this move has no file name: it leads to the root, or ends in `..`.
     NoFileName(usize),
@@ -24,7 +25,7 @@ pub enum Refusal {
     /// The new path of this move has a name that isn't plain on every platform.
     NotPlain(usize),
     /// The old or the new path of this move has a name that begins with `.relmove`, as the run's own files have.
-    OwnName(usize),
+    ReservedName(usize),
     /// These two moves have the same old path.
     SameOld(usize, usize),
     /// Nothing is at the old path of this move.
@@ -35,8 +36,8 @@ pub enum Refusal {
     SameNew(usize, usize),
     /// An entry is at the new path of this move, and stays there.
     Taken(usize),
-    /// These two entries have the same path after the moves.
-    Collision(usize, usize),
+    /// The entries with these paths have the same path after the moves.
+    Collision(NormalPath, NormalPath),
     /// The new path of this move is below what is, after the moves, a file or a symbolic link.
     BelowFile(usize),
     /// The new path of this move is below what is, after the moves, a directory that isn't read.
@@ -57,7 +58,7 @@ impl fmt::Display for Refusal {
                 "move {k}: its new path is its old one or below it"
             ),
             Refusal::NotPlain(k) => write!(f, "move {k}: a new name isn't plain on every platform"),
-            Refusal::OwnName(k) => write!(f, "move {k}: a name begins with .relmove"),
+            Refusal::ReservedName(k) => write!(f, "move {k}: a name begins with .relmove"),
             Refusal::SameOld(j, k) => write!(f, "moves {j} and {k} have the same old path"),
             Refusal::NotThere(k) => write!(f, "move {k}: nothing is at its old path"),
             Refusal::ForeignName(k) => write!(
@@ -66,7 +67,10 @@ impl fmt::Display for Refusal {
             ),
             Refusal::SameNew(j, k) => write!(f, "moves {j} and {k} have the same new path"),
             Refusal::Taken(k) => write!(f, "move {k}: its new path is taken"),
-            Refusal::Collision(d, e) => write!(f, "entries {d} and {e} get the same path"),
+            Refusal::Collision(one, other) => {
+                let (one, other) = (one.as_relative_path(), other.as_relative_path());
+                write!(f, "{one} and {other} get the same path")
+            }
             Refusal::BelowFile(k) => write!(f, "move {k}: its new path is below a file"),
             Refusal::BelowUnread(k) => write!(
                 f,

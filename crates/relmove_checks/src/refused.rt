@@ -7,9 +7,10 @@ ghost use Rattle.relative_path.specs.Walk.{IsSame, place_of};
 ghost use Rattle.relative_path.specs.Naming.{last_name};
 ghost use Rattle.relative_path.specs.RelativePath.{path_components, path_text};
 ghost use Rattle.relative_path_files.specs.Names.{IfName, IsPlainName};
-ghost use Rattle.relative_path_moves.specs.Moves.{AreApart, Move, moves_of};
+ghost use Rattle.relative_path_moves.specs.Moves.{AreApart, Move, written_moves};
 ghost use Rattle.relative_path_places.specs.PlaceIndex.{Indexes};
-ghost use Rattle.relmove_checks.specs.Moves.{EachMove, HasFinePaths, HasNames, IsPlaced, StaysOutside, is_own_step, move_of};
+ghost use Rattle.relative_path_places.specs.Views.{view_components};
+ghost use Rattle.relmove_checks.specs.Moves.{EachMove, HasFinePaths, HasNames, IsPlaced, StaysOutside, is_reserved_step, move_of};
 ghost use Rattle.relmove_checks.specs.Trees.{
   AreForeignPaths,
   AreInOrder,
@@ -37,42 +38,42 @@ use crate::refusal::Refusal;
 use relative_path::{Component, RelativePath};
 use relative_path_files::has_plain_names;
 use relative_path_moves::TreeMoves;
-use relative_path_places::{NormalPath, PlaceIndex};
+use relative_path_places::{NormalView, PlaceIndex, WrittenPath};
 use relmove_actions::RESERVED;
-use std::alloc::{AllocError, Global};
+use std::alloc::Global;
 
 // Fails at the first move whose paths, by themselves, are refused.
 pub(crate) fn check_paths(
-    alloc: Global,
-    moves: &[(RelativePath<'_>, RelativePath<'_>)],
+    moves: &[relative_path_moves::Move<'_>],
     rule: NameRule,
 ) -> Result<(), Refusal>
-    ensures fine { OnOk result (EachMove (HasFinePaths rule) (moves_of moves.now)) }
+    ensures fine { OnOk result (EachMove (HasFinePaths rule) (written_moves moves.now)) }
     ensures refused { IfErr result
-        (IsOfFirst (HasFinePaths rule) (IsPathRefusal rule) (moves_of moves.now)) }
+        (IsOfFirst (HasFinePaths rule) (IsPathRefusal rule) (written_moves moves.now)) }
 {
-    for (number, (old, new)) in moves.iter().enumerate() {
-        check_move(alloc, number, *old, *new, rule)?;
+    for (number, a) in moves.iter().enumerate() {
+        check_move(number, &a.old, &a.new, rule)?;
     }
     Ok(())
 }
 
 // Fails if the paths of a move, by themselves, are refused.
 fn check_move(
-    alloc: Global,
     number: usize,
-    old: RelativePath<'_>,
-    new: RelativePath<'_>,
+    old: &WrittenPath<'_>,
+    new: &WrittenPath<'_>,
     rule: NameRule,
 ) -> Result<(), Refusal>
     ensures fine { OnOk result
-        (HasFinePaths rule (move_of (path_components old.entry) (path_components new.entry))) }
+        (HasFinePaths rule (move_of (path_components old.now) (path_components new.now))) }
     ensures refused { IfErr result (IsPathRefusal rule number
-        (move_of (path_components old.entry) (path_components new.entry))) }
+        (move_of (path_components old.now) (path_components new.now))) }
 {
-    check_placed(number, old, new)?;
-    check_outside(alloc, number, old, new)?;
-    check_names(number, old, new, rule)
+    let from = old.written();
+    let to = new.written();
+    check_placed(number, from, to)?;
+    check_outside(number, old, new)?;
+    check_names(number, from, to, rule)
 }
 
 // Fails if a path of a move has no file name, or leads above the root.
@@ -113,21 +114,15 @@ fn leaves_root(path: RelativePath<'_>) -> bool
 }
 
 // Fails if the new path is the old one, or below it.
-fn check_outside(
-    alloc: Global,
-    number: usize,
-    old: RelativePath<'_>,
-    new: RelativePath<'_>,
-) -> Result<(), Refusal>
+fn check_outside(number: usize, old: &WrittenPath<'_>, new: &WrittenPath<'_>) -> Result<(), Refusal>
     ensures fine { OnOk result
-        (StaysOutside (move_of (path_components old.entry) (path_components new.entry))) }
+        (StaysOutside (move_of (path_components old.now) (path_components new.now))) }
     ensures refused { IfErr result (λ refusal. (rule : NameRule)
-        → IsPlaced (move_of (path_components old.entry) (path_components new.entry))
+        → IsPlaced (move_of (path_components old.now) (path_components new.now))
         → IsPathRefusal rule number
-        (move_of (path_components old.entry) (path_components new.entry)) refusal) }
+        (move_of (path_components old.now) (path_components new.now)) refusal) }
 {
-    let old = NormalPath::of(alloc, old)?;
-    let new = NormalPath::of(alloc, new)?;
+    let (old, new) = (old.normal(), new.normal());
     if new.as_relative_path().starts_with(old.as_relative_path()) {
         return Err(Refusal::IntoItself(number));
     }
@@ -153,11 +148,11 @@ fn check_names(
     if !may_be_named(new, rule) {
         return Err(Refusal::NotPlain(number));
     }
-    if has_own_name(old) {
-        return Err(Refusal::OwnName(number));
+    if has_reserved_name(old) {
+        return Err(Refusal::ReservedName(number));
     }
-    if has_own_name(new) {
-        return Err(Refusal::OwnName(number));
+    if has_reserved_name(new) {
+        return Err(Refusal::ReservedName(number));
     }
     Ok(())
 }
@@ -174,11 +169,11 @@ fn may_be_named(path: RelativePath<'_>, rule: NameRule) -> bool
 }
 
 // Returns whether a path has a name that begins as those of a run's own files.
-fn has_own_name(path: RelativePath<'_>) -> bool
-    ensures { result ≡ list_any is_own_step (path_components path.entry) }
+fn has_reserved_name(path: RelativePath<'_>) -> bool
+    ensures { result ≡ list_any is_reserved_step (path_components path.entry) }
 {
     for component in path.components() {
-        if is_own_step(component) {
+        if is_reserved_step(component) {
             return true;
         }
     }
@@ -186,8 +181,8 @@ fn has_own_name(path: RelativePath<'_>) -> bool
 }
 
 // Returns whether a component is a name that begins as those of a run's own files.
-fn is_own_step(component: Component<'_>) -> bool
-    ensures { result ≡ is_own_step (step_of component.entry) }
+fn is_reserved_step(component: Component<'_>) -> bool
+    ensures { result ≡ is_reserved_step (step_of component.entry) }
 {
     match component {
         Component::Normal(name) => name.starts_with(RESERVED),
@@ -197,42 +192,40 @@ fn is_own_step(component: Component<'_>) -> bool
 
 // Fails at the first move whose old path isn't there, or whose entries have a name that isn't UTF-8.
 pub(crate) fn check_olds(
-    alloc: Global,
     foreign: &[RelativePath<'_>],
     index: &PlaceIndex,
-    moves: &[(RelativePath<'_>, RelativePath<'_>)],
+    moves: &[relative_path_moves::Move<'_>],
 ) -> Result<(), Refusal>
     requires { AreInOrder foreign.now }
     ensures fine { OnOk result ((entries : List Entry) → Indexes (entry_paths entries) index.now
         → AreForeignPaths entries foreign.now
-        → EachMove (λ move. IsOldFine entries move.old) (moves_of moves.now)) }
+        → EachMove (λ move. IsOldFine entries move.old) (written_moves moves.now)) }
     ensures refused { IfErr result (λ refusal. (entries : List Entry) → Indexes (entry_paths entries) index.now
         → AreForeignPaths entries foreign.now
-        → IsOfFirst (λ move. IsOldFine entries move.old) (IsOldRefusal entries) (moves_of moves.now) refusal) }
+        → IsOfFirst (λ move. IsOldFine entries move.old) (IsOldRefusal entries) (written_moves moves.now) refusal) }
 {
-    for (number, (old, _)) in moves.iter().enumerate() {
-        check_old(alloc, foreign, index, number, *old)?;
+    for (number, a) in moves.iter().enumerate() {
+        check_old(foreign, index, number, &a.old)?;
     }
     Ok(())
 }
 
 // Fails if nothing is at the old path of a move, or an entry there has a name that isn't UTF-8.
 fn check_old(
-    alloc: Global,
     foreign: &[RelativePath<'_>],
     index: &PlaceIndex,
     number: usize,
-    old: RelativePath<'_>,
+    old: &WrittenPath<'_>,
 ) -> Result<(), Refusal>
     requires { AreInOrder foreign.now }
     ensures fine { OnOk result ((entries : List Entry) → Indexes (entry_paths entries) index.now
-        → AreForeignPaths entries foreign.now → IsOldFine entries (path_components old.entry)) }
+        → AreForeignPaths entries foreign.now → IsOldFine entries (path_components old.now)) }
     ensures refused { IfErr result (λ refusal. (entries : List Entry) (new : List Step)
         → Indexes (entry_paths entries) index.now → AreForeignPaths entries foreign.now
-        → IsOldRefusal entries number (move_of (path_components old.entry) new) refusal) }
+        → IsOldRefusal entries number (move_of (path_components old.now) new) refusal) }
 {
-    let old = NormalPath::of(alloc, old)?;
-    if index.get(&old).is_none() {
+    let old = old.normal();
+    if index.get(old).is_none() {
         return Err(Refusal::NotThere(number));
     }
     if has_path_below(foreign, old.as_relative_path()) {
@@ -246,16 +239,16 @@ pub(crate) fn check_news(
     alloc: Global,
     entries: &[Entry<'_>],
     index: &PlaceIndex,
-    tree: &TreeMoves<'_>,
-    moves: &[(RelativePath<'_>, RelativePath<'_>)],
+    table: &TreeMoves<'_>,
+    moves: &[relative_path_moves::Move<'_>],
 ) -> Result<(), Refusal>
     requires { Indexes (entry_paths entries.now) index.now }
-    ensures fine { OnOk result (EachMove (λ move. IsFree tree.now entries.now move.new) (moves_of moves.now)) }
-    ensures refused { IfErr result (IsOfFirst (λ move. IsFree tree.now entries.now move.new)
-        (IsNewRefusal tree.now entries.now) (moves_of moves.now)) }
+    ensures fine { OnOk result (EachMove (λ move. IsFree table.now entries.now move.new) (written_moves moves.now)) }
+    ensures refused { IfErr result (IsOfFirst (λ move. IsFree table.now entries.now move.new)
+        (IsNewRefusal table.now entries.now) (written_moves moves.now)) }
 {
-    for (number, (_, new)) in moves.iter().enumerate() {
-        check_new(alloc, entries, index, tree, number, *new)?;
+    for (number, a) in moves.iter().enumerate() {
+        check_new(alloc, entries, index, table, number, &a.new)?;
     }
     Ok(())
 }
@@ -265,21 +258,21 @@ fn check_new(
     alloc: Global,
     entries: &[Entry<'_>],
     index: &PlaceIndex,
-    tree: &TreeMoves<'_>,
+    table: &TreeMoves<'_>,
     number: usize,
-    new: RelativePath<'_>,
+    new: &WrittenPath<'_>,
 ) -> Result<(), Refusal>
     requires { Indexes (entry_paths entries.now) index.now }
-    ensures fine { OnOk result (IsFree tree.now entries.now (path_components new.entry)) }
+    ensures fine { OnOk result (IsFree table.now entries.now (path_components new.now)) }
     ensures refused { IfErr result (λ refusal. (old : List Step)
-        → IsNewRefusal tree.now entries.now number (move_of old (path_components new.entry)) refusal) }
+        → IsNewRefusal table.now entries.now number (move_of old (path_components new.now)) refusal) }
 {
-    let place = NormalPath::of(alloc, new)?;
-    if index.get(&place).is_none() {
+    let place = new.normal();
+    if index.get(place).is_none() {
         return Ok(());
     }
-    let after = tree.path_after(alloc, new)?;
-    if after == place {
+    let after = table.normal_after(alloc, place.view())?;
+    if after == *place {
         return Err(Refusal::Taken(number));
     }
     Ok(())
@@ -296,42 +289,39 @@ pub(crate) enum Barrier {
 
 // Fails at the first move whose new path is below such a barrier.
 pub(crate) fn check_above(
-    alloc: Global,
     entries: &[Entry<'_>],
     after: &PlaceIndex,
-    moves: &[(RelativePath<'_>, RelativePath<'_>)],
+    moves: &[relative_path_moves::Move<'_>],
     barrier: Barrier,
 ) -> Result<(), Refusal>
     ensures fine { OnOk result ((tree : List Move) → IndexesAfter tree entries.now after.now
-        → EachMove (λ move. IsBelowNo (is_barrier barrier) tree entries.now move.new) (moves_of moves.now)) }
+        → EachMove (λ move. IsBelowNo (is_barrier barrier) tree entries.now move.new) (written_moves moves.now)) }
     ensures refused { IfErr result (λ refusal. (tree : List Move) → IndexesAfter tree entries.now after.now
         → IsOfFirst (λ move. IsBelowNo (is_barrier barrier) tree entries.now move.new)
-        (IsAboveRefusal barrier tree entries.now) (moves_of moves.now) refusal) }
+        (IsAboveRefusal barrier tree entries.now) (written_moves moves.now) refusal) }
 {
-    for (number, (_, new)) in moves.iter().enumerate() {
-        check_place(alloc, entries, after, number, *new, barrier)?;
+    for (number, a) in moves.iter().enumerate() {
+        check_place(entries, after, number, &a.new, barrier)?;
     }
     Ok(())
 }
 
 // Fails if the new path of a move is below such a barrier.
 fn check_place(
-    alloc: Global,
     entries: &[Entry<'_>],
     after: &PlaceIndex,
     number: usize,
-    new: RelativePath<'_>,
+    new: &WrittenPath<'_>,
     barrier: Barrier,
 ) -> Result<(), Refusal>
     ensures fine { OnOk result ((tree : List Move) → IndexesAfter tree entries.now after.now
-        → IsBelowNo (is_barrier barrier) tree entries.now (path_components new.entry)) }
+        → IsBelowNo (is_barrier barrier) tree entries.now (path_components new.now)) }
     ensures refused { IfErr result (λ refusal. (old : List Step) (tree : List Move)
         → IndexesAfter tree entries.now after.now
-        → IsAboveRefusal barrier tree entries.now number (move_of old (path_components new.entry)) refusal) }
+        → IsAboveRefusal barrier tree entries.now number (move_of old (path_components new.now)) refusal) }
 {
-    let place = NormalPath::of(alloc, new)?;
-    let is_below = is_below_barrier(alloc, entries, after, place.as_relative_path(), barrier)?;
-    if is_below {
+    let place = new.normal();
+    if is_below_barrier(entries, after, place.view(), barrier) {
         return Err(refusal_below(number, barrier));
     }
     Ok(())
@@ -349,43 +339,39 @@ fn refusal_below(number: usize, barrier: Barrier) -> Refusal
 
 // Returns whether such a barrier is, after the moves, above a path.
 fn is_below_barrier(
-    alloc: Global,
     entries: &[Entry<'_>],
     after: &PlaceIndex,
-    path: RelativePath<'_>,
+    path: NormalView<'_>,
     barrier: Barrier,
-) -> Result<bool, AllocError>
-    ensures { IfOk result (λ is_below. (tree : List Move) → IndexesAfter tree entries.now after.now
-        → MatchBool is_below (HasAbove (is_barrier barrier) tree entries.now (path_components path.entry))
-        (¬ HasAbove (is_barrier barrier) tree entries.now (path_components path.entry))) }
+) -> bool
+    ensures { (tree : List Move) → IndexesAfter tree entries.now after.now
+        → MatchBool result (HasAbove (is_barrier barrier) tree entries.now (view_components path.entry))
+        (¬ HasAbove (is_barrier barrier) tree entries.now (view_components path.entry)) }
 {
     let mut left = path;
     while let Some(directory) = directory_above(left) {
-        let has_barrier = has_barrier_at(alloc, entries, after, directory, barrier)?;
-        if has_barrier {
-            return Ok(true);
+        if has_barrier_at(entries, after, directory, barrier) {
+            return true;
         }
         left = directory;
     }
-    Ok(false)
+    false
 }
 
 // Returns whether such a barrier is, after the moves, where a path leads.
 fn has_barrier_at(
-    alloc: Global,
     entries: &[Entry<'_>],
     after: &PlaceIndex,
-    path: RelativePath<'_>,
+    path: NormalView<'_>,
     barrier: Barrier,
-) -> Result<bool, AllocError>
-    ensures { IfOk result (λ has_barrier. (tree : List Move) → IndexesAfter tree entries.now after.now
-        → MatchBool has_barrier (HasAt (is_barrier barrier) tree entries.now (path_components path.entry))
-        (¬ HasAt (is_barrier barrier) tree entries.now (path_components path.entry))) }
+) -> bool
+    ensures { (tree : List Move) → IndexesAfter tree entries.now after.now
+        → MatchBool result (HasAt (is_barrier barrier) tree entries.now (view_components path.entry))
+        (¬ HasAt (is_barrier barrier) tree entries.now (view_components path.entry)) }
 {
-    let place = NormalPath::of(alloc, path)?;
-    match after.get(&place) {
-        Some(number) => Ok(is_barrier_at(entries, number, barrier)),
-        None => Ok(false),
+    match after.get_view(path) {
+        Some(number) => is_barrier_at(entries, number, barrier),
+        None => false,
     }
 }
 

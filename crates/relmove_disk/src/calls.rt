@@ -4,7 +4,7 @@ use std::io::{self, ErrorKind};
 
 /// How a call fails.
 #[derive(Clone, Copy, Debug, PartialEq, Eq)]
-pub enum Way {
+pub enum Failing {
     /// It does nothing, and fails.
     Refused,
     /// It does nothing, and fails for lack of memory.
@@ -43,7 +43,7 @@ impl Turn {
 pub(crate) struct Calls {
     count: Cell<u32>,
     fails_at: Cell<u32>,
-    way: Cell<Way>,
+    failing: Cell<Failing>,
     // A second call that fails: it is refused.
     refused_at: Cell<u32>,
 }
@@ -54,16 +54,16 @@ impl Calls {
         Calls {
             count: Cell::new(0),
             fails_at: Cell::new(0),
-            way: Cell::new(Way::Refused),
+            failing: Cell::new(Failing::Refused),
             refused_at: Cell::new(0),
         }
     }
 
     /// Counts anew. From now on the call of this number fails; none does if the number is 0.
-    pub fn fail_at(&self, number: u32, way: Way) {
+    pub fn fail_at(&self, number: u32, failing: Failing) {
         self.count.set(0);
         self.fails_at.set(number);
-        self.way.set(way);
+        self.failing.set(failing);
         self.refused_at.set(0);
     }
 
@@ -89,18 +89,18 @@ impl Calls {
             return Ok(Turn::Succeeds);
         }
         let is_first = number == fails_at;
-        match self.way.get() {
-            Way::Refused if is_first => Err(io::Error::from(ErrorKind::Other)),
-            Way::Refused => Ok(Turn::Succeeds),
-            Way::OutOfMemory if is_first => Err(io::Error::from(ErrorKind::OutOfMemory)),
-            Way::OutOfMemory => Ok(Turn::Succeeds),
-            Way::DoneAndFailed if is_first => Ok(Turn::Fails),
-            Way::DoneAndFailed => Ok(Turn::Succeeds),
-            Way::Killed => Err(io::Error::from(ErrorKind::Other)),
-            Way::DoneAndKilled if is_first => Ok(Turn::Fails),
-            Way::DoneAndKilled => Err(io::Error::from(ErrorKind::Other)),
-            Way::NotThere if is_first => Ok(Turn::Hides),
-            Way::NotThere => Ok(Turn::Succeeds),
+        match self.failing.get() {
+            Failing::Refused if is_first => Err(io::Error::from(ErrorKind::Other)),
+            Failing::Refused => Ok(Turn::Succeeds),
+            Failing::OutOfMemory if is_first => Err(io::Error::from(ErrorKind::OutOfMemory)),
+            Failing::OutOfMemory => Ok(Turn::Succeeds),
+            Failing::DoneAndFailed if is_first => Ok(Turn::Fails),
+            Failing::DoneAndFailed => Ok(Turn::Succeeds),
+            Failing::Killed => Err(io::Error::from(ErrorKind::Other)),
+            Failing::DoneAndKilled if is_first => Ok(Turn::Fails),
+            Failing::DoneAndKilled => Err(io::Error::from(ErrorKind::Other)),
+            Failing::NotThere if is_first => Ok(Turn::Hides),
+            Failing::NotThere => Ok(Turn::Succeeds),
         }
     }
 }

@@ -1,5 +1,5 @@
 //! A disk, as a test makes and reads it.
-use crate::calls::{Calls, Turn, Way};
+use crate::calls::{Calls, Failing, Turn};
 use crate::node::{Content, Owner};
 use crate::nodes::Nodes;
 use std::alloc::{AllocError, Global};
@@ -46,7 +46,7 @@ pub struct Disk {
     // Whether each name of a file has an inode of its own.
     pub(crate) has_inode_for_each_path: Cell<bool>,
     // Why a file can't have a second name, if it can't.
-    pub(crate) no_links: Cell<Option<ErrorKind>>,
+    pub(crate) no_hard_links: Cell<Option<ErrorKind>>,
     // Why a directory can't be synced, if it can't.
     pub(crate) no_syncs: Cell<Option<ErrorKind>>,
     // The permissions that a new file or directory doesn't get.
@@ -72,7 +72,7 @@ impl Disk {
             size: Cell::new(u64::MAX),
             gives_away: Cell::new(false),
             has_inode_for_each_path: Cell::new(false),
-            no_links: Cell::new(None),
+            no_hard_links: Cell::new(None),
             no_syncs: Cell::new(None),
             mask: Cell::new(0),
             is_locked: Cell::new(false),
@@ -130,10 +130,10 @@ impl Disk {
     }
 
     /// Gives a file a second name, as another process that nothing refuses.
-    pub fn add_link(&self, from: &str, to: &str) -> io::Result<()> {
+    pub fn add_hard_link(&self, from: &str, to: &str) -> io::Result<()> {
         let mut nodes = self.nodes.try_borrow_mut()?;
         let (from, to) = (nodes.resolve(from, false)?, nodes.resolve(to, false)?);
-        nodes.link(from.as_str(), to.as_str())?;
+        nodes.hard_link(from.as_str(), to.as_str())?;
         nodes.sync_all();
         Ok(())
     }
@@ -203,8 +203,8 @@ impl Disk {
     }
 
     /// From now on the process can't give a file a second name: that fails with this error.
-    pub fn refuse_links(&self, why: ErrorKind) {
-        self.no_links.set(Some(why));
+    pub fn refuse_hard_links(&self, why: ErrorKind) {
+        self.no_hard_links.set(Some(why));
     }
 
     /// From now on the process can't sync a directory: that fails with this error.
@@ -236,8 +236,8 @@ impl Disk {
     }
 
     /// Counts calls anew. From now on the call of this number fails; none does if the number is 0.
-    pub fn fail_at(&self, number: u32, way: Way) {
-        self.calls.fail_at(number, way);
+    pub fn fail_at(&self, number: u32, failing: Failing) {
+        self.calls.fail_at(number, failing);
     }
 
     /// Refuses the call of this number, beside the one that fails anyway.
@@ -277,8 +277,8 @@ impl Disk {
     }
 
     /// How many changes of names aren't on the disk yet.
-    pub fn unsynced(&self) -> io::Result<usize> {
-        Ok(self.nodes.try_borrow()?.unsynced())
+    pub fn count_unsynced(&self) -> io::Result<usize> {
+        Ok(self.nodes.try_borrow()?.count_unsynced())
     }
 
     /// Turns the power off and on. Of the changes of names that aren't on the disk yet only the oldest ones of this

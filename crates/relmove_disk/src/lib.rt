@@ -12,7 +12,7 @@
 //! ```
 #![tactic(auto)]
 
-pub use self::calls::Way;
+pub use self::calls::Failing;
 pub use self::disk::Disk;
 pub use self::machine::DiskMachine;
 pub use self::node::Content;

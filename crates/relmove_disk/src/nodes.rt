@@ -82,7 +82,7 @@ impl Nodes {
     }
 
     /// How many names a node has.
-    pub fn links(&self, number: usize) -> u64 {
+    pub fn hard_links(&self, number: usize) -> u64 {
         self.names.iter().filter(|name| name.node == number).count() as u64
     }
 
@@ -220,7 +220,7 @@ impl Nodes {
     }
 
     /// Gives a file a second name.
-    pub fn link(&mut self, from: &str, to: &str) -> io::Result<()> {
+    pub fn hard_link(&mut self, from: &str, to: &str) -> io::Result<()> {
         let directory = self.need_change(to)?;
         let number = self.need_number(from)?;
         if self.number_at(to).is_some() {
@@ -240,7 +240,7 @@ impl Nodes {
     pub fn rename(&mut self, from: &str, to: &str) -> io::Result<()> {
         let directories = [self.need_change(from)?, self.need_change(to)?];
         let number = self.need_number(from)?;
-        self.need_own(directories[0], number)?;
+        self.need_owner(directories[0], number)?;
         let replaced = self.number_at(to);
         if let Some(replaced) = replaced {
             if replaced == number {
@@ -266,7 +266,7 @@ impl Nodes {
         if self.node(number)?.is_directory() {
             return Err(io::Error::from(ErrorKind::IsADirectory));
         }
-        self.need_own(directory, number)?;
+        self.need_owner(directory, number)?;
         self.remove_name(path);
         let path = String::from_str(self.alloc, path)?;
         self.note(Change::Removed(path, number), &[directory])
@@ -282,7 +282,7 @@ impl Nodes {
         if self.has_names_below(path) {
             return Err(io::Error::from(ErrorKind::DirectoryNotEmpty));
         }
-        self.need_own(directory, number)?;
+        self.need_owner(directory, number)?;
         self.remove_name(path);
         let path = String::from_str(self.alloc, path)?;
         self.note(Change::Removed(path, number), &[directory])
@@ -310,7 +310,7 @@ impl Nodes {
     }
 
     /// How many changes of names aren't on the disk yet.
-    pub fn unsynced(&self) -> usize {
+    pub fn count_unsynced(&self) -> usize {
         self.changes.len()
     }
 
@@ -440,7 +440,7 @@ impl Nodes {
     }
 
     // Fails if a directory is sticky, and the process owns neither it nor what is to leave it.
-    fn need_own(&self, directory: usize, number: usize) -> io::Result<()> {
+    fn need_owner(&self, directory: usize, number: usize) -> io::Result<()> {
         let (directory, node) = (self.node(directory)?, self.node(number)?);
         let user = self.process.user;
         let is_owner = directory.owner.user == user || node.owner.user == user;

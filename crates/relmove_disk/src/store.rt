@@ -62,7 +62,7 @@ impl<'a> DiskStore<'a> {
     }
 
     /// What is at a path, as another process sees it that nothing refuses.
-    pub fn seen(&self, path: &str) -> io::Result<Option<Found>> {
+    pub fn see(&self, path: &str) -> io::Result<Option<Found>> {
         self.found_at(path, false)
     }
 
@@ -112,7 +112,7 @@ impl<'a> DiskStore<'a> {
             kind: kind_of(node),
             device: node.device,
             inode: self.inode_of(number, path),
-            links: nodes.links(number),
+            names: nodes.hard_links(number),
             length: node.length().saturating_add(node.hole),
             mode: node.mode,
             owner: node.owner.user,
@@ -202,7 +202,7 @@ impl Store for DiskStore<'_> {
         Ok(names_of(nodes.names_in(path.as_str())?))
     }
 
-    fn read_link(&mut self, path: &str) -> io::Result<Option<String>> {
+    fn read_symlink(&mut self, path: &str) -> io::Result<Option<String>> {
         let turn = self.disk.turn()?;
         turn.end()?;
         let path = self.resolve(path)?;
@@ -311,16 +311,16 @@ impl Store for DiskStore<'_> {
         turn.end()
     }
 
-    fn link(&mut self, from: &str, to: &str) -> io::Result<()> {
+    fn hard_link(&mut self, from: &str, to: &str) -> io::Result<()> {
         let turn = self.disk.turn()?;
-        if let Some(why) = self.disk.no_links.get() {
+        if let Some(why) = self.disk.no_hard_links.get() {
             return Err(io::Error::from(why));
         }
         let (from, to) = (self.resolve(from)?, self.resolve(to)?);
         self.disk
             .nodes
             .try_borrow_mut()?
-            .link(from.as_str(), to.as_str())?;
+            .hard_link(from.as_str(), to.as_str())?;
         turn.end()
     }
 

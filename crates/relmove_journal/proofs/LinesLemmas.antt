@@ -9,7 +9,7 @@ use Rattle.std.specs.List.{flat_map, fold}
 use Rattle.std.specs.Fmt.{decimal}
 use Rattle.hex.specs.Hex.{encode_lower}
 use Rattle.sha2.specs.Sha256.{sha256}
-use Rattle.relmove_actions.specs.declared.steps.Rename.{Rename}
+use Rattle.relmove_actions.specs.declared.actions.Rename.{Rename}
 use Rattle.relmove_journal.specs.declared.journal.Journal.{Journal}
 use Rattle.relmove_journal.specs.declared.journal.Origin.{Origin}
 use Rattle.relmove_journal.specs.declared.text_digest.TextDigest.{TextDigest}

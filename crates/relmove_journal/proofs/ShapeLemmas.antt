@@ -11,7 +11,7 @@ use Rattle.std.proofs.lemmas.List.Elements.{All-from_get_or, All-weaker}
 use Rattle.std.proofs.lemmas.List.Folds.{Any-from_list_any, list_any_at}
 use Rattle.std.proofs.lemmas.List.Splits.{slice_split_first, slice_split_none}
 use Rattle.std.proofs.lemmas.Str.Pattern.{IsSplitOnceResult, NoCharPasses-char, contains_char, drop_at_char, split_once_first, split_parts, starts_text}
-use Rattle.relmove_journal.specs.Shape.{begins_with, below_own_directory, is_directory_name, is_in_own_directory, is_name, is_nameless, is_not_empty, is_number, is_slash, leads_from_number, leads_to, names}
+use Rattle.relmove_journal.specs.Shape.{begins_with, below_run_directory, is_directory_name, is_in_run_directory, is_name, is_nameless, is_not_empty, is_number, is_slash, leads_from_number, leads_to, names}
 
 -- two tests that are true in the same cases are equal
 same_test : (a b : Bool) → (a ≡ true → b ≡ true) → (b ≡ true → a ≡ true) → a ≡ b
@@ -146,13 +146,13 @@ names-split text (Some parts) found =
 -- ---- staging names
 
 -- what `strip_prefix` returns
-pub own_directory-strip : (text : List ℕ) (r : Option (Bor (List ℕ)))
+pub run_directory-strip : (text : List ℕ) (r : Option (Bor (List ℕ)))
     → MatchOption r (FindsTextPrefix (codes ".relmove-run/") text None)
     (λ x. StripsPrefix (FindsTextPrefix (codes ".relmove-run/")) text x.now)
-    → MatchOption r (is_in_own_directory text ≡ false)
-    (λ x. (is_in_own_directory text ≡ true) × (x.now ≡ below_own_directory text))
-own_directory-strip text None found = sym (starts_text false (codes ".relmove-run/") text found)
-own_directory-strip text (Some x) (n, (long, split, boundary), rest, _) =
+    → MatchOption r (is_in_run_directory text ≡ false)
+    (λ x. (is_in_run_directory text ≡ true) × (x.now ≡ below_run_directory text))
+run_directory-strip text None found = sym (starts_text false (codes ".relmove-run/") text found)
+run_directory-strip text (Some x) (n, (long, split, boundary), rest, _) =
     let starts = starts_text true (codes ".relmove-run/") text (13, (refl, rw long at split, boundary), boundary) in
     (sym starts, rw (rest, long))
 

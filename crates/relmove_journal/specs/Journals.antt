@@ -4,7 +4,7 @@ use Rattle.std.specs.Fmt.{decimal}
 use Rattle.std.specs.List.{flat_map}
 use Rattle.hex.specs.Hex.{encode_lower}
 use Rattle.sha2.specs.Sha256.{sha256}
-use Rattle.relmove_actions.specs.declared.steps.Rename.{Rename}
+use Rattle.relmove_actions.specs.declared.actions.Rename.{Rename}
 use Rattle.relmove_journal.specs.declared.journal.Origin.{Origin}
 use Rattle.relmove_journal.specs.declared.text_digest.TextDigest.{TextDigest}
 use Rattle.relmove_journal.specs.declared.work.Leftover.{Leftover}

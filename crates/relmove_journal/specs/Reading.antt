@@ -4,7 +4,7 @@ use Rattle.std.specs.Fmt.{decimal}
 use Rattle.std.specs.List.{flat_map}
 use Rattle.std.specs.Str.{IsUtf8}
 use Rattle.hex.specs.Hex.{IsBytes}
-use Rattle.relmove_actions.specs.declared.steps.Rename.{Rename}
+use Rattle.relmove_actions.specs.declared.actions.Rename.{Rename}
 use Rattle.relmove_journal.specs.declared.error.JournalError.{JournalError}
 use Rattle.relmove_journal.specs.declared.error.JournalError.TheVariants.{OutOfMemory}
 use Rattle.relmove_journal.specs.declared.journal.Journal.{Journal}

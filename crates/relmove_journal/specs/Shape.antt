@@ -6,7 +6,7 @@ use Rattle.std.specs.Cmp.Lexicographic.{slice_cmp}
 use Rattle.std.specs.Ordering.{nat_cmp}
 use Rattle.std.specs.Str.{bytes_eq}
 use Rattle.std.specs.Char.{is_ascii_digit}
-use Rattle.relmove_actions.specs.declared.steps.Rename.{Rename}
+use Rattle.relmove_actions.specs.declared.actions.Rename.{Rename}
 use Rattle.relmove_journal.specs.declared.work.Leftover.{Leftover}
 use Rattle.relmove_journal.specs.declared.work.Leftover.TheVariants.{Text, Directory}
 use Rattle.relmove_journal.specs.declared.work.TextFile.{TextFile}
@@ -35,25 +35,25 @@ is_nameless text = bytes_eq text [] || bytes_eq text (codes ".") || bytes_eq tex
 abbrev pub is_name : List ℕ → Bool
 is_name text = not (is_nameless text) && not (begins_with (codes ".relmove") text) && not (list_any (λ b. b == 0) text)
 
--- the text is the name of a directory that is read: one without a dot at its beginning
+-- the text is the name of a directory that is read: one without a dot at its beginning, or `.github`
 abbrev pub is_directory_name : List ℕ → Bool
-is_directory_name n = is_name n && not (begins_with (codes ".") n)
+is_directory_name n = is_name n && (not (begins_with (codes ".") n) || bytes_eq n (codes ".github"))
 
 -- the text is a number
 abbrev pub is_number : List ℕ → Bool
 is_number text = is_not_empty text && list_all is_ascii_digit text
 
 -- the text leads to the run's own directory, and to something in it
-abbrev pub is_in_own_directory : List ℕ → Bool
-is_in_own_directory text = begins_with (codes ".relmove-run/") text
+abbrev pub is_in_run_directory : List ℕ → Bool
+is_in_run_directory text = begins_with (codes ".relmove-run/") text
 
 -- what follows the name of that directory
-abbrev pub below_own_directory : List ℕ → List ℕ
-below_own_directory text = drop 13 text
+abbrev pub below_run_directory : List ℕ → List ℕ
+below_run_directory text = drop 13 text
 
 -- the text is `.relmove-run/` and a number
 abbrev pub is_staging_name : List ℕ → Bool
-is_staging_name text = is_in_own_directory text && is_number (below_own_directory text)
+is_staging_name text = is_in_run_directory text && is_number (below_run_directory text)
 
 -- ---- paths
 
@@ -82,7 +82,7 @@ is_directory_path path = leads_to is_directory_name (names path)
 
 -- the path leads from the staging name of a directory that moves to a directory that is read
 abbrev pub is_made_below : List ℕ → Bool
-is_made_below path = is_in_own_directory path && leads_from_number (names (below_own_directory path))
+is_made_below path = is_in_run_directory path && leads_from_number (names (below_run_directory path))
 
 -- a run can make a directory at the path: its way begins at the root, or at the staging name of a directory that moves
 abbrev pub is_made_path : List ℕ → Bool

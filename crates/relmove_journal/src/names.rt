@@ -1,7 +1,7 @@
 //! The names of a run's own, below its root.
 
 /// The path of a run's own directory from the root.
-pub const OWN_DIRECTORY: &str = ".relmove-run";
+pub const RUN_DIRECTORY: &str = ".relmove-run";
 
 /// What a staging name begins with, before its number: the run's own directory and a slash.
 pub const STAGING_NAME: &str = ".relmove-run/";

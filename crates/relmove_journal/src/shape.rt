@@ -198,7 +198,7 @@ fn is_nameless(part: &str) -> bool
 fn is_directory_name(part: &str) -> bool
     ensures { result ≡ is_directory_name part.now }
 {
-    is_name(part) && !part.starts_with('.')
+    is_name(part) && (!part.starts_with('.') || part == ".github")
 }
 
 // Whether a path is a staging name: a number in the run's own directory.

@@ -6,7 +6,7 @@ use Rattle.std.proofs.lemmas.List.Sums.{fold-append, prefix_len_passes, prefix_l
 use Rattle.std.proofs.lemmas.Simd.{chunk-drop}
 use Rattle.std.specs.List.{after_last, suffix_len}
 use Rattle.markdown_targets.specs.Classes.{begins_character}
-use Rattle.relmove_lib.specs.Position.{after_byte, is_line_end, next, place_after}
+use Rattle.relmove_lib.specs.Position.{after_byte, is_line_end, next, position_after}
 use Rattle.relmove_lib.specs.declared.position.Position.{Position}
 
 count_by-cons : (p : ℕ → Bool) (x : ℕ) (xs : List ℕ) (t : Bool) → p x ≡ t
@@ -17,7 +17,7 @@ count_by-cons p x xs t is =
 -- a text without a line end only adds columns
 pub place_after_no_line_end : (text : List ℕ) (here : Position) → here.column < 2 ^ 64
     → count_by is_line_end text ≡ 0
-    → place_after here text
+    → position_after here text
     ≡ record { line = here.line; column = min (here.column + count_by begins_character text) (2 ^ 64 - 1) }
 place_after_no_line_end [] here fits none =
     let same : here.column ≡ min (here.column + 0) (2 ^ 64 - 1) = omega (arith, fits) in
@@ -26,9 +26,9 @@ place_after_no_line_end (b ∷ bs) here fits none =
     of (is_line_end b) (begins_character b) refl refl (place_after_no_line_end bs) where
       of : (ends first : Bool) → is_line_end b ≡ ends → begins_character b ≡ first
           → ((there : Position) → there.column < 2 ^ 64 → count_by is_line_end bs ≡ 0
-          → place_after there bs
+          → position_after there bs
           ≡ record { line = there.line; column = min (there.column + count_by begins_character bs) (2 ^ 64 - 1) })
-          → place_after (cond ends (record { line = next here.line; column = 1 })
+          → position_after (cond ends (record { line = next here.line; column = 1 })
           (cond first (record { line = here.line; column = next here.column }) here)) bs
           ≡ record { line = here.line; column = min (here.column + count_by begins_character (b ∷ bs)) (2 ^ 64 - 1) }
       of true first is _ _ = absurd (omega (arith, none, count_by-cons is_line_end b bs true is))
@@ -44,14 +44,14 @@ place_after_no_line_end (b ∷ bs) here fits none =
           (omega (arith, fits, count_by-cons begins_character b bs false later))
 
 -- each line end adds a line
-line-place_after : (text : List ℕ) (here : Position) → here.line < 2 ^ 64
-    → (place_after here text).line ≡ min (here.line + count_by is_line_end text) (2 ^ 64 - 1)
-line-place_after [] here fits = omega (arith, fits)
-line-place_after (b ∷ bs) here fits = of (is_line_end b) (begins_character b) refl (line-place_after bs) where
+line-position_after : (text : List ℕ) (here : Position) → here.line < 2 ^ 64
+    → (position_after here text).line ≡ min (here.line + count_by is_line_end text) (2 ^ 64 - 1)
+line-position_after [] here fits = omega (arith, fits)
+line-position_after (b ∷ bs) here fits = of (is_line_end b) (begins_character b) refl (line-position_after bs) where
   of : (ends first : Bool) → is_line_end b ≡ ends
       → ((there : Position) → there.line < 2 ^ 64
-      → (place_after there bs).line ≡ min (there.line + count_by is_line_end bs) (2 ^ 64 - 1))
-      → (place_after (cond ends (record { line = next here.line; column = 1 })
+      → (position_after there bs).line ≡ min (there.line + count_by is_line_end bs) (2 ^ 64 - 1))
+      → (position_after (cond ends (record { line = next here.line; column = 1 })
       (cond first (record { line = here.line; column = next here.column }) here)) bs).line
       ≡ min (here.line + count_by is_line_end (b ∷ bs)) (2 ^ 64 - 1)
   of true _ is others =
@@ -122,7 +122,7 @@ cut_at_last p xs some =
 -- a text with a line end adds lines, and columns begin anew after the last line end
 pub place_after_line_ends : (text : List ℕ) (here : Position) → here.line < 2 ^ 64
     → 0 < count_by is_line_end text
-    → place_after here text
+    → position_after here text
     ≡ record {
       line = min (here.line + count_by is_line_end text) (2 ^ 64 - 1);
       column = min (count_by begins_character (after_last is_line_end text) + 1) (2 ^ 64 - 1);
@@ -131,13 +131,13 @@ place_after_line_ends text here fits some =
     let cut = cut_at_last is_line_end text some in
     let rest = after_last is_line_end text in
     let none : count_by is_line_end rest ≡ 0 = count_by-after_last is_line_end text in
-    let there = place_after here cut.before in
+    let there = position_after here cut.before in
     let begins : Position = record { line = next there.line; column = 1 } in
     let lines = ap (count_by is_line_end) cut.whole
     ∙ sum_by-append (λ b. cond (is_line_end b) 1 0) cut.before (cut.last ∷ rest) in
-    ap (place_after here) cut.whole
+    ap (position_after here) cut.whole
     ∙ fold-append after_byte here cut.before (cut.last ∷ rest)
-    ∙ ap (λ place. place_after place rest) (cond-true (is_line_end cut.last) begins _ cut.passes)
+    ∙ ap (λ place. position_after place rest) (cond-true (is_line_end cut.last) begins _ cut.passes)
     ∙ place_after_no_line_end rest begins (omega arith) none
     ∙ ap₂ (λ (line column : ℕ). record { line = line; column = column })
     (omega (
@@ -145,7 +145,7 @@ place_after_line_ends text here fits some =
       fits,
       none,
       lines,
-      line-place_after cut.before here fits,
+      line-position_after cut.before here fits,
       count_by-cons is_line_end cut.last rest true cut.passes,
     ))
     (omega arith)

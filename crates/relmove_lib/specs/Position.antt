@@ -24,5 +24,5 @@ after_byte here byte =
     else here
 
 -- the place after a text that begins here
-abbrev pub place_after : Position → List ℕ → Position
-place_after here text = fold after_byte here text
+abbrev pub position_after : Position → List ℕ → Position
+position_after here text = fold after_byte here text

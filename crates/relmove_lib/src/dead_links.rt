@@ -4,8 +4,8 @@ use crate::presence::{Presence, presence_at};
 use crate::tree::{EntryKind, Page, Tree};
 use relative_path::RelativePath;
 use relative_path_links::{Target, targets};
-use relmove_run::{Fault, Store};
-use std::alloc::AllocError;
+use relmove_run::{RunFault, Store};
+use std::alloc::{AllocError, Global};
 use std::io::ErrorKind;
 use target_paths::{TargetReading, path_of_target};
 
@@ -44,51 +44,91 @@ pub struct DeadLink {
     pub why: WhyDead,
 }
 
-/// Returns the relative links of the pages of a tree that lead to nothing below the root, or above it.
-///
-/// What isn't in the tree is asked for: files in directories whose names begin with a dot, and what symbolic links lead
-/// to. Queries and fragments have no influence, and neither has a target whose meaning isn't known.
-pub fn dead_links_of<S: Store>(store: &mut S, tree: &Tree) -> Result<Vec<DeadLink>, Fault> {
-    let mut dead = Vec::new(store.alloc());
-    for page in &tree.pages {
-        add_dead_links(store, tree, page, &mut dead)?;
-    }
-    Ok(dead)
+/// The links of pages, as they were checked.
+#[derive(Debug, PartialEq, Eq, Drop)]
+pub struct Checked {
+    /// How many pages were read.
+    pub pages: usize,
+    /// How many relative links they have.
+    pub links: usize,
+    /// How many of these have a meaning that isn't known.
+    pub unknown: usize,
+    /// The links that lead to nothing below the root, or above it.
+    pub dead: Vec<DeadLink>,
 }
 
-// Adds the dead links of a page.
-fn add_dead_links<S: Store>(
+/// Returns the relative links of the pages of a tree that lead to nothing below the root, or above it. So does
+/// [`check_links`], which counts links too.
+pub fn dead_links_of<S: Store>(store: &mut S, tree: &Tree) -> Result<Vec<DeadLink>, RunFault> {
+    Ok(check_links(store, tree)?.dead)
+}
+
+/// Checks the relative links of the pages of a tree.
+///
+/// What isn't in the tree is asked for: files in directories whose names begin with a dot, and what symbolic links lead
+/// to. Queries and fragments have no influence.
+pub fn check_links<S: Store>(store: &mut S, tree: &Tree) -> Result<Checked, RunFault> {
+    let mut checked = Checked {
+        pages: tree.pages.len(),
+        links: 0,
+        unknown: 0,
+        dead: Vec::new(store.alloc()),
+    };
+    for page in &tree.pages {
+        check_page(store, tree, page, &mut checked)?;
+    }
+    Ok(checked)
+}
+
+// Checks the links of a page.
+fn check_page<S: Store>(
     store: &mut S,
     tree: &Tree,
     page: &Page,
-    dead: &mut Vec<DeadLink>,
-) -> Result<(), Fault> {
+    checked: &mut Checked,
+) -> Result<(), RunFault> {
     let found = targets(store.alloc(), page.text.as_str())?;
     let mut positions = Positions::new(page.text.as_str());
     for target in &found {
-        if let Some(link) = dead_link(store, tree, page, *target, &mut positions)? {
-            dead.push(link)?;
+        match reading_of(store.alloc(), page, *target)? {
+            TargetReading::Path { path, .. } => {
+                checked.links = checked.links.saturating_add(1);
+                let path = path.as_str();
+                if let Some(link) = dead_link(store, tree, page, (*target, path), &mut positions)? {
+                    checked.dead.push(link)?;
+                }
+            }
+            TargetReading::Unknown(_) => {
+                checked.links = checked.links.saturating_add(1);
+                checked.unknown = checked.unknown.saturating_add(1);
+            }
+            TargetReading::NotRelative => {}
         }
     }
     Ok(())
 }
 
-// The link of a target, if it is dead.
+// What a target of a page means.
+fn reading_of(alloc: Global, page: &Page, target: Target) -> Result<TargetReading, AllocError> {
+    match page.text.get(target.start..target.end) {
+        Some(written) => path_of_target(alloc, target.syntax, written),
+        None => Ok(TargetReading::NotRelative),
+    }
+}
+
+// The link of a target with this path, if it is dead.
 fn dead_link<S: Store>(
     store: &mut S,
     tree: &Tree,
     page: &Page,
-    target: Target,
+    (target, path): (Target, &str),
     positions: &mut Positions<'_>,
-) -> Result<Option<DeadLink>, Fault> {
+) -> Result<Option<DeadLink>, RunFault> {
     let alloc = store.alloc();
     let Some(written) = page.text.get(target.start..target.end) else {
         return Ok(None);
     };
-    let TargetReading::Path { path, .. } = path_of_target(alloc, target.syntax, written)? else {
-        return Ok(None);
-    };
-    let Some(why) = why_dead(store, tree, page.path.as_str(), path.as_str())? else {
+    let Some(why) = why_dead(store, tree, page.path.as_str(), path)? else {
         return Ok(None);
     };
     let Some(position) = positions.at(target.start) else {
@@ -108,7 +148,7 @@ fn why_dead<S: Store>(
     tree: &Tree,
     page: &str,
     path: &str,
-) -> Result<Option<WhyDead>, Fault> {
+) -> Result<Option<WhyDead>, RunFault> {
     let directory = RelativePath::new(page)
         .parent()
         .unwrap_or(RelativePath::new(""));

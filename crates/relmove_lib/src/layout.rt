@@ -2,9 +2,8 @@
 use crate::seen::{Seen, seen_by_system};
 use crate::tree::{EntryKind, Tree, has_path, is_read_directory};
 use relative_path::RelativePath;
-use relative_path_moves::TreeMoves;
 use relmove_plan::Plan;
-use relmove_run::{Fault, Store};
+use relmove_run::{RunFault, Store};
 use std::alloc::{AllocError, Global};
 use std::collections::BTreeMap;
 
@@ -39,20 +38,21 @@ pub(crate) fn layout_before<'a>(alloc: Global, tree: &'a Tree) -> Result<Layout<
 pub(crate) fn layout_after<'a>(
     alloc: Global,
     tree: &'a Tree,
-    table: &TreeMoves<'_>,
-    plan: &Plan,
+    plan: &Plan<'_>,
 ) -> Result<Layout<'a>, AllocError> {
     let mut layout = BTreeMap::new(alloc);
     for (path, kind) in &tree.entries {
-        let now = table.path_after(alloc, RelativePath::new(path.as_str()))?;
+        let now = plan
+            .moves
+            .path_after(alloc, RelativePath::new(path.as_str()))?;
         let item = item_of(tree, path.as_str(), kind);
         layout.insert(now.into_relative_path_buf().into_string(), item)?;
     }
-    for path in &plan.steps.made {
+    for path in &plan.actions.made {
         layout.insert(String::from_str(alloc, path.as_str())?, Item::Directory)?;
     }
     let mut layout = Layout(layout);
-    for path in &plan.steps.emptied {
+    for path in &plan.actions.emptied {
         layout.remove_empty(tree, path.as_str());
     }
     Ok(layout)
@@ -80,7 +80,7 @@ impl Layout<'_> {
 
     // What is at a path below the root. In a directory that isn't read, the system is asked for what was there before the
     // moves.
-    pub fn seen_at<S: Store>(&self, store: &mut S, path: &str) -> Result<Seen, Fault> {
+    pub fn seen_at<S: Store>(&self, store: &mut S, path: &str) -> Result<Seen, RunFault> {
         match self.0.get(path) {
             Some(Item::File) => Ok(Seen::File),
             Some(Item::Directory) => Ok(Seen::Directory),

@@ -6,17 +6,18 @@
 //! ```text
 //! a call              program
 //! what is printed     report  summary
-//! whole pieces        dead_links  moving
-//! questions           losses  writable
+//! whole pieces        dead_links  moving  moved
+//! questions           losses  writable  destinations
 //! where paths lead    seen  layout  walk
 //! the work            tree  presence
-//! what all share      position  arguments  progress
+//! what all share      position  arguments  move_list  progress
 //! ```
 #![tactic(auto)]
 
-pub use self::arguments::{Command, Effect, WrongCall, command_of};
-pub use self::dead_links::{DeadLink, WhyDead, dead_links_of};
+pub use self::arguments::{Effect, Task, WrongCall, task_of};
+pub use self::dead_links::{Checked, DeadLink, WhyDead, check_links, dead_links_of};
 pub use self::losses::Loss;
+pub use self::move_list::{WrongList, moves_of_list};
 pub use self::moving::{
     LeftLink, LostSymlink, Moving, WhyLeft, WhyRefused, is_directory, moving_of,
 };
@@ -28,8 +29,11 @@ pub use relmove_plan::NameRule;
 
 mod arguments;
 mod dead_links;
+mod destinations;
 mod layout;
 mod losses;
+mod move_list;
+mod moved;
 mod moving;
 mod position;
 mod presence;

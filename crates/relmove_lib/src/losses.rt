@@ -1,12 +1,12 @@
 //! Paths that lead to something before moves, and to nothing or to something else after them.
 use crate::layout::{Layout, layout_after, layout_before};
 use crate::seen::find;
-use crate::tree::{EntryKind, Tree, has_dot_name};
+use crate::tree::{EntryKind, Tree, has_unread_name};
 use crate::walk::end_of;
 use relative_path::RelativePath;
 use relative_path_moves::TreeMoves;
 use relmove_plan::Plan;
-use relmove_run::{Fault, Store};
+use relmove_run::{RunFault, Store};
 use std::alloc::{AllocError, Global};
 
 /// Where a path leads after moves that led to something else before them.
@@ -27,10 +27,9 @@ pub(crate) struct Watch<'a> {
     pub ignores_case: bool,
     // Whether it has a symbolic link, or a directory that can't be listed.
     has_symlink: bool,
-    // Whether it has a directory whose name begins with a dot.
+    // Whether it has a directory whose name begins with a dot, and that isn't read.
     has_dot_directory: bool,
-    table: &'a TreeMoves<'a>,
-    plan: &'a Plan,
+    plan: &'a Plan<'a>,
     // The tree before the moves and after them, once it was asked for.
     both: Option<(Layout<'a>, Layout<'a>)>,
 }
@@ -40,15 +39,13 @@ impl<'a> Watch<'a> {
     pub fn new<S: Store>(
         store: &mut S,
         tree: &'a Tree,
-        table: &'a TreeMoves<'a>,
-        plan: &'a Plan,
-    ) -> Result<Watch<'a>, Fault> {
+        plan: &'a Plan<'a>,
+    ) -> Result<Watch<'a>, RunFault> {
         Ok(Watch {
             tree,
             ignores_case: ignores_case(store, tree)?,
             has_symlink: has_symlink(tree),
             has_dot_directory: has_dot_directory(tree),
-            table,
             plan,
             both: None,
         })
@@ -63,16 +60,20 @@ impl<'a> Watch<'a> {
 
     /// Where a path leads after the moves, if it led to something else before them. A path that leads nowhere has nothing
     /// to lose.
-    pub fn loss_of<S: Store>(&mut self, store: &mut S, path: &str) -> Result<Option<Loss>, Fault> {
+    pub fn loss_of<S: Store>(
+        &mut self,
+        store: &mut S,
+        path: &str,
+    ) -> Result<Option<Loss>, RunFault> {
         let alloc = store.alloc();
         let both = match self.both.take() {
             Some(both) => both,
             None => (
                 layout_before(alloc, self.tree)?,
-                layout_after(alloc, self.tree, self.table, self.plan)?,
+                layout_after(alloc, self.tree, self.plan)?,
             ),
         };
-        let loss = loss_between(store, &both.0, &both.1, self.table, path)?;
+        let loss = loss_between(store, &both.0, &both.1, &self.plan.moves, path)?;
         self.both = Some(both);
         Ok(loss)
     }
@@ -87,15 +88,15 @@ fn has_symlink(tree: &Tree) -> bool {
             .any(|kind| matches!(kind, EntryKind::Symlink(_)))
 }
 
-// Whether a tree has a directory whose name begins with a dot.
+// Whether a tree has a directory whose name begins with a dot, and that isn't read.
 fn has_dot_directory(tree: &Tree) -> bool {
     tree.entries.iter().any(|(path, kind)| *kind == EntryKind::Directory
-        && has_dot_name(path.as_str()))
+        && has_unread_name(path.as_str()))
 }
 
 // Whether the file system takes a name for one in another case. Asks for one name: the first one that has an ASCII letter,
 // with the first of its letters in the other case.
-fn ignores_case<S: Store>(store: &mut S, tree: &Tree) -> Result<bool, Fault> {
+fn ignores_case<S: Store>(store: &mut S, tree: &Tree) -> Result<bool, RunFault> {
     for path in tree.entries.keys() {
         if let Some(other) = in_other_case(store.alloc(), path.as_str())? {
             let is_entry = tree.entries.contains_key(other.as_str());
@@ -147,18 +148,18 @@ fn loss_between<S: Store>(
     store: &mut S,
     before: &Layout<'_>,
     after: &Layout<'_>,
-    table: &TreeMoves<'_>,
+    moves: &TreeMoves<'_>,
     path: &str,
-) -> Result<Option<Loss>, Fault> {
+) -> Result<Option<Loss>, RunFault> {
     let alloc = store.alloc();
     let Some(file) = end_of(store, before, path)? else {
         return Ok(None);
     };
-    let now = table.path_after(alloc, RelativePath::new(path))?;
+    let now = moves.path_after(alloc, RelativePath::new(path))?;
     let Some(end) = end_of(store, after, now.as_relative_path().as_str())? else {
         return Ok(Some(Loss::Nowhere));
     };
-    let file = table.path_after(alloc, RelativePath::new(file.as_str()))?;
+    let file = moves.path_after(alloc, RelativePath::new(file.as_str()))?;
     if file.as_relative_path().as_str() == end.as_str() {
         Ok(None)
     } else {

@@ -3,14 +3,16 @@ use crate::dead_links::leads_somewhere;
 use crate::losses::{Loss, Watch};
 use crate::position::{Position, Positions};
 use crate::presence::{Presence, presence_at};
-use crate::tree::{EntryKind, Page, Tree, cannot_read, has_dot_name, has_path, is_read_directory};
+use crate::tree::{
+    EntryKind, Page, Tree, cannot_read, has_path, has_unread_name, is_read_directory,
+};
 use relative_path::RelativePath;
 use relative_path_links::{Change, Edit, Markdown, MovedSitePage, SitePage, Unchanged};
-use relative_path_moves::{MoveTableError, TreeMoves};
+use relative_path_moves::{Move, TreeMoves};
 use relative_path_places::NormalPath;
 use relmove_plan::{Entry, Kind, NameRule, Plan, Refusal, make_plan};
 use relmove_run::{
-    Call, Fault, FoundKind, JOURNAL, LONGEST_PATH, Store, at, is_absence, join, need_short,
+    FoundKind, JOURNAL, LONGEST_PATH, RunFault, Store, SystemCall, at, is_absence, join, need_short,
 };
 use std::alloc::{AllocError, AllocFailed, Global};
 use std::io::ErrorKind;
@@ -19,51 +21,43 @@ use std::io::ErrorKind;
 #[derive(Debug, Drop)]
 pub enum WhyRefused {
     /// A call failed, or there is a journal.
-    Fault(Fault),
+    RunFault(RunFault),
     /// The plan refuses the moves.
     Plan(Refusal),
     /// A path of this move ends in a slash, and what moves is no directory.
     NoDirectory(usize),
-    /// A path of this move is in a directory whose name begins with a dot. Such directories aren't read.
+    /// A path of this move is in a directory whose name begins with a dot. Such directories aren't read, but for `.github`.
     DotDirectory(usize),
+    /// This move was made before the call, and nothing is at its new path.
+    NotArrived(usize),
+    /// This move was made before the call, and something else is at its old path.
+    NotLeft(usize),
     /// The new path of this move has a name that begins as those of a run's own files, in another case. A file system may
     /// take one for the other.
-    OwnName(usize),
+    ReservedName(usize),
 }
 
 impl From<AllocError> for WhyRefused {
     fn from(_: AllocError) -> WhyRefused {
-        WhyRefused::Fault(Fault::OutOfMemory)
+        WhyRefused::RunFault(RunFault::OutOfMemory)
     }
 }
 
 impl<T: Drop> From<AllocFailed<T>> for WhyRefused {
     fn from(_: AllocFailed<T>) -> WhyRefused {
-        WhyRefused::Fault(Fault::OutOfMemory)
+        WhyRefused::RunFault(RunFault::OutOfMemory)
     }
 }
 
-impl From<Fault> for WhyRefused {
-    fn from(fault: Fault) -> WhyRefused {
-        WhyRefused::Fault(fault)
+impl From<RunFault> for WhyRefused {
+    fn from(fault: RunFault) -> WhyRefused {
+        WhyRefused::RunFault(fault)
     }
 }
 
 impl From<Refusal> for WhyRefused {
     fn from(refusal: Refusal) -> WhyRefused {
         WhyRefused::Plan(refusal)
-    }
-}
-
-impl From<MoveTableError> for WhyRefused {
-    fn from(error: MoveTableError) -> WhyRefused {
-        match error {
-            MoveTableError::NoFileName(number) => WhyRefused::Plan(Refusal::NoFileName(number)),
-            MoveTableError::SameOld(first, second) => {
-                WhyRefused::Plan(Refusal::SameOld(first, second))
-            }
-            MoveTableError::OutOfMemory => WhyRefused::Fault(Fault::OutOfMemory),
-        }
     }
 }
 
@@ -104,37 +98,36 @@ pub struct LostSymlink<'a> {
 
 /// What moves do to a tree.
 #[derive(Drop)]
-pub struct Moving<'a> {
+pub struct Moving<'a, 'm> {
     /// The plan.
-    pub plan: Plan,
+    pub plan: Plan<'m>,
     /// The links that no longer lead to their file, or may not.
     pub left: Vec<LeftLink<'a>>,
     /// The symbolic links that no longer lead to what they led to, and aren't among those of the plan.
     pub lost: Vec<LostSymlink<'a>>,
 }
 
-/// Plans the moves of a tree: each OLD with its NEW. Nothing is changed. Fails with [`Fault::TooLong`] if something in the
+/// Plans the moves of a tree: each OLD with its NEW. Nothing is changed. Fails with [`RunFault::TooLong`] if something in the
 /// tree gets a path that is too long for the system.
 ///
 /// Asks the system whether what the links that stay lead to is there, and for the names in directories that aren't read
 /// and get longer paths. Of a link it asks for nothing else, unless the link leads through a symbolic link or into a
 /// directory that isn't read. Once it asks whether the file system ignores case. If it does, links that lead to no name
 /// that was read are asked for. What is above the root is asked for only where a symbolic link leads there.
-pub fn moving_of<'a, S: Store>(
+pub fn moving_of<'a, 'm, S: Store>(
     store: &mut S,
     tree: &'a Tree,
-    moves: &[(&str, &str)],
+    moves: &[(&'m str, &'m str)],
     rule: NameRule,
-) -> Result<Moving<'a>, WhyRefused> {
+) -> Result<Moving<'a, 'm>, WhyRefused> {
     let alloc = store.alloc();
     need_read_directories(alloc, moves)?;
     let pairs = pairs_of(alloc, moves)?;
     let plan = plan_of(alloc, tree, &pairs, rule)?;
     need_directories(alloc, tree, moves)?;
     need_other_names(moves)?;
-    let table = TreeMoves::new(alloc, &pairs)?;
-    need_short_paths(store, tree, &pairs, &table)?;
-    let (left, lost) = losses_of(store, tree, &plan, &table)?;
+    need_short_paths(store, tree, &plan.moves)?;
+    let (left, lost) = losses_of(store, tree, &plan)?;
     Ok(Moving { plan, left, lost })
 }
 
@@ -160,7 +153,7 @@ fn need_read_directories(alloc: Global, moves: &[(&str, &str)]) -> Result<(), Wh
     Ok(())
 }
 
-// Whether a path is in a directory below the root whose name begins with a dot.
+// Whether a path is in a directory below the root whose name begins with a dot, and isn't `.github`.
 fn is_in_dot_directory(alloc: Global, path: &str) -> Result<bool, AllocError> {
     let normal = RelativePath::new("").join_normalized(alloc, RelativePath::new(path))?;
     let normal = normal.as_relative_path();
@@ -170,7 +163,7 @@ fn is_in_dot_directory(alloc: Global, path: &str) -> Result<bool, AllocError> {
     let Some((directory, _)) = normal.as_str().rsplit_once('/') else {
         return Ok(false);
     };
-    Ok(directory.starts_with('.') || directory.contains("/."))
+    Ok(directory.split('/').any(has_unread_name))
 }
 
 // Fails if a path of a move ends in a slash, and what moves is no directory.
@@ -186,15 +179,15 @@ fn need_directories(alloc: Global, tree: &Tree, moves: &[(&str, &str)]) -> Resul
 // Fails if a new path has a name that begins as those of a run's own files, in whatever case.
 fn need_other_names(moves: &[(&str, &str)]) -> Result<(), WhyRefused> {
     for (number, (_, new)) in moves.iter().enumerate() {
-        if new.split('/').any(is_own_name) {
-            return Err(WhyRefused::OwnName(number));
+        if new.split('/').any(is_reserved_name) {
+            return Err(WhyRefused::ReservedName(number));
         }
     }
     Ok(())
 }
 
 // Whether a name begins as those of a run's own files, in whatever case. They all begin as the journal's.
-fn is_own_name(name: &str) -> bool {
+fn is_reserved_name(name: &str) -> bool {
     match name.get(..JOURNAL.len()) {
         Some(start) => start.eq_ignore_ascii_case(JOURNAL),
         None => false,
@@ -205,19 +198,18 @@ fn is_own_name(name: &str) -> bool {
 fn need_short_paths<S: Store>(
     store: &mut S,
     tree: &Tree,
-    moves: &[(RelativePath<'_>, RelativePath<'_>)],
-    table: &TreeMoves<'_>,
+    moves: &TreeMoves<'_>,
 ) -> Result<(), WhyRefused> {
     let alloc = store.alloc();
-    let most = most_added(store.root(), moves);
+    let most = most_added(store.root(), moves.moves());
     for (path, kind) in &tree.entries {
         let path = path.as_str();
         if path.len().saturating_add(most) > LONGEST_PATH {
-            let after = table.path_after(alloc, RelativePath::new(path))?;
+            let after = moves.path_after(alloc, RelativePath::new(path))?;
             need_short(alloc, store.root(), after.as_relative_path().as_str())?;
         }
-        if *kind == EntryKind::Directory && has_dot_name(path) {
-            let after = table.path_after(alloc, RelativePath::new(path))?;
+        if *kind == EntryKind::Directory && has_unread_name(path) {
+            let after = moves.path_after(alloc, RelativePath::new(path))?;
             need_short_below(store, path, after.as_relative_path().as_str())?;
         }
     }
@@ -225,17 +217,17 @@ fn need_short_paths<S: Store>(
 }
 
 // How many bytes a path below a root gets at most, with the root's path before it and after moves.
-fn most_added(root: &str, moves: &[(RelativePath<'_>, RelativePath<'_>)]) -> usize {
+fn most_added(root: &str, moves: &[Move<'_>]) -> usize {
     let mut longest = 0usize;
-    for (_, new) in moves {
-        longest = longest.max(new.as_str().len());
+    for a in moves {
+        longest = longest.max(a.new.written().as_str().len());
     }
     root.len().saturating_add(1).saturating_add(longest)
 }
 
 // Fails if something below a directory that isn't read gets a path that is too long, since the directory gets another
 // one. Asks for names and kinds alone. What can't be listed isn't asked for.
-fn need_short_below<S: Store>(store: &mut S, old: &str, new: &str) -> Result<(), Fault> {
+fn need_short_below<S: Store>(store: &mut S, old: &str, new: &str) -> Result<(), RunFault> {
     if new.len() <= old.len() {
         return Ok(());
     }
@@ -256,12 +248,12 @@ fn need_short_in<S: Store>(
     store: &mut S,
     old: &str,
     new: &str,
-) -> Result<Vec<(String, String)>, Fault> {
+) -> Result<Vec<(String, String)>, RunFault> {
     let alloc = store.alloc();
     let mut directories = Vec::new(alloc);
     let names = match store.list(old) {
         Err(error) if cannot_ask(error.kind()) => return Ok(directories),
-        listed => at(alloc, Call::List, old, listed)?,
+        listed => at(alloc, SystemCall::List, old, listed)?,
     };
     for name in &names.texts {
         let new = join(alloc, new, name.as_str())?;
@@ -275,10 +267,10 @@ fn need_short_in<S: Store>(
 }
 
 // Whether a directory is at a path. What can't be looked up is none.
-fn is_directory_at<S: Store>(store: &mut S, path: &str) -> Result<bool, Fault> {
+fn is_directory_at<S: Store>(store: &mut S, path: &str) -> Result<bool, RunFault> {
     match store.find(path) {
         Err(error) if cannot_ask(error.kind()) => Ok(false),
-        asked => match at(store.alloc(), Call::Ask, path, asked)? {
+        asked => match at(store.alloc(), SystemCall::Ask, path, asked)? {
             Some(found) => Ok(found.kind == FoundKind::Directory),
             None => Ok(false),
         },
@@ -300,15 +292,16 @@ pub fn is_directory(alloc: Global, tree: &Tree, path: &str) -> Result<bool, Allo
 }
 
 // The plan of moves.
-fn plan_of(
+fn plan_of<'a>(
     alloc: Global,
     tree: &Tree,
-    moves: &[(RelativePath<'_>, RelativePath<'_>)],
+    moves: &[(RelativePath<'a>, RelativePath<'a>)],
     rule: NameRule,
-) -> Result<Plan, Refusal> {
+) -> Result<Plan<'a>, Refusal> {
     let entries = entries_of(alloc, tree)?;
-    let pages = site_pages(alloc, &tree.pages)?;
-    let tree = relmove_plan::Tree {
+    let paths = page_paths(alloc, &tree.pages)?;
+    let pages = site_pages(alloc, &tree.pages, &paths)?;
+    let tree = relmove_plan::SiteTree {
         entries: &entries,
         pages: &pages,
     };
@@ -326,7 +319,7 @@ fn entries_of<'a>(alloc: Global, tree: &'a Tree) -> Result<Vec<Entry<'a>>, Alloc
             EntryKind::Symlink(Some(path)) => symlink_of(path.as_str()),
             EntryKind::Symlink(None) => Kind::Symlink { path: None },
         };
-        let path = RelativePath::new(path.as_str());
+        let path = NormalPath::of(alloc, RelativePath::new(path.as_str()))?;
         entries.push(Entry { path, kind })?;
     }
     Ok(entries)
@@ -351,12 +344,25 @@ fn symlink_of<'a>(path: &'a str) -> Kind<'a> {
     }
 }
 
-// Returns the pages, as the plan takes them.
-fn site_pages(alloc: Global, pages: &[Page]) -> Result<Vec<SitePage<'_>>, AllocError> {
-    let mut site = Vec::with_capacity(alloc, pages.len())?;
+// The normal paths of pages.
+fn page_paths(alloc: Global, pages: &[Page]) -> Result<Vec<NormalPath>, AllocError> {
+    let mut paths = Vec::with_capacity(alloc, pages.len())?;
     for page in pages {
+        paths.push(NormalPath::of(alloc, RelativePath::new(page.path.as_str()))?)?;
+    }
+    Ok(paths)
+}
+
+// The pages with these paths, as the plan takes them.
+fn site_pages<'a>(
+    alloc: Global,
+    pages: &'a [Page],
+    paths: &'a [NormalPath],
+) -> Result<Vec<SitePage<'a>>, AllocError> {
+    let mut site = Vec::with_capacity(alloc, pages.len())?;
+    for (page, path) in pages.iter().zip(paths) {
         site.push(SitePage {
-            path: RelativePath::new(page.path.as_str()),
+            path,
             text: page.text.as_str(),
         })?;
     }
@@ -367,10 +373,9 @@ fn site_pages(alloc: Global, pages: &[Page]) -> Result<Vec<SitePage<'_>>, AllocE
 fn losses_of<'a, S: Store>(
     store: &mut S,
     tree: &'a Tree,
-    plan: &Plan,
-    table: &TreeMoves<'_>,
-) -> Result<(Vec<LeftLink<'a>>, Vec<LostSymlink<'a>>), Fault> {
-    let mut watch = Watch::new(store, tree, table, plan)?;
+    plan: &Plan<'_>,
+) -> Result<(Vec<LeftLink<'a>>, Vec<LostSymlink<'a>>), RunFault> {
+    let mut watch = Watch::new(store, tree, plan)?;
     let left = left_links(store, &tree.pages, &plan.pages, &mut watch)?;
     let lost = lost_symlinks(store, tree, plan, &mut watch)?;
     Ok((left, lost))
@@ -382,7 +387,7 @@ fn left_links<'a, S: Store>(
     pages: &'a [Page],
     news: &[MovedSitePage],
     watch: &mut Watch<'_>,
-) -> Result<Vec<LeftLink<'a>>, Fault> {
+) -> Result<Vec<LeftLink<'a>>, RunFault> {
     let mut left = Vec::new(store.alloc());
     for (page, new) in pages.iter().zip(news) {
         add_left_links(store, page, &new.edits, watch, &mut left)?;
@@ -398,7 +403,7 @@ fn add_left_links<'a, S: Store>(
     edits: &[Edit],
     watch: &mut Watch<'_>,
     left: &mut Vec<LeftLink<'a>>,
-) -> Result<(), Fault> {
+) -> Result<(), RunFault> {
     let mut positions = Positions::new(page.text.as_str());
     for edit in edits {
         if let Some((why, leads)) = loss_of_edit(store, edit, watch)?
@@ -422,7 +427,7 @@ fn loss_of_edit<S: Store>(
     store: &mut S,
     edit: &Edit,
     watch: &mut Watch<'_>,
-) -> Result<Option<(WhyLeft, bool)>, Fault> {
+) -> Result<Option<(WhyLeft, bool)>, RunFault> {
     if let Change::Left(why) = edit.change {
         let leads = may_lead(store, edit.file.as_ref())?;
         return Ok(Some((WhyLeft::Unchanged(why), leads)));
@@ -435,7 +440,7 @@ fn loss_of_edit<S: Store>(
 
 // Returns whether a relative target with this file leads to a file, or may. A target without one has a meaning that isn't
 // known.
-fn may_lead<S: Store>(store: &mut S, file: Option<&NormalPath>) -> Result<bool, Fault> {
+fn may_lead<S: Store>(store: &mut S, file: Option<&NormalPath>) -> Result<bool, RunFault> {
     let Some(file) = file else {
         return Ok(true);
     };
@@ -449,7 +454,7 @@ fn watched_loss<S: Store>(
     store: &mut S,
     file: Option<&NormalPath>,
     watch: &mut Watch<'_>,
-) -> Result<Option<WhyLeft>, Fault> {
+) -> Result<Option<WhyLeft>, RunFault> {
     let Some(file) = file else {
         return Ok(None);
     };
@@ -465,7 +470,7 @@ fn why_left<S: Store>(
     store: &mut S,
     file: &str,
     watch: &mut Watch<'_>,
-) -> Result<Option<WhyLeft>, Fault> {
+) -> Result<Option<WhyLeft>, RunFault> {
     match presence_at(watch.tree, file) {
         Presence::There => Ok(None),
         Presence::Unknown => match watch.loss_of(store, file)? {
@@ -483,9 +488,9 @@ fn why_left<S: Store>(
 fn lost_symlinks<'a, S: Store>(
     store: &mut S,
     tree: &'a Tree,
-    plan: &Plan,
+    plan: &Plan<'_>,
     watch: &mut Watch<'_>,
-) -> Result<Vec<LostSymlink<'a>>, Fault> {
+) -> Result<Vec<LostSymlink<'a>>, RunFault> {
     let mut lost = Vec::new(store.alloc());
     // Those of the plan are in the order of the entries.
     let mut notices = plan.symlinks.as_slice();

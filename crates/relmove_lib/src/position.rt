@@ -2,7 +2,7 @@
 ghost use Rattle.std.specs.Prelude.{◌≡◌};
 ghost use Rattle.std.specs.List.{after_last, count_by};
 ghost use Rattle.markdown_targets.specs.Classes.{begins_character};
-ghost use Rattle.relmove_lib.specs.Position.{is_line_end, first_place, place_after};
+ghost use Rattle.relmove_lib.specs.Position.{is_line_end, first_place, position_after};
 
 use relative_path_links::Target;
 use std::simd::prelude::*;
@@ -26,7 +26,7 @@ pub struct Position {
 /// assert_eq!(rt; position_after("a\né"), Position { line: 2, column: 2 });
 /// ```
 pub fn position_after(text: &str) -> Position
-    ensures { result ≡ place_after first_place text.now }
+    ensures { result ≡ position_after first_place text.now }
 {
     FIRST.after(text)
 }
@@ -38,7 +38,7 @@ impl Position {
     // The place after a text that begins here.
     #[tactic(auto, using(crate::proofs::PositionLemmas::place_after_no_line_end, crate::proofs::PositionLemmas::place_after_line_ends))]
     fn after(self, text: &str) -> Position
-        ensures { result ≡ place_after self text.now }
+        ensures { result ≡ position_after self text.now }
     {
         let bytes = text.as_bytes();
         let lines = line_end_count(bytes);

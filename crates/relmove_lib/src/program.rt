@@ -1,24 +1,30 @@
 //! A whole call of the program: its arguments, what it does, what it prints, its status.
-use crate::arguments::{Command, Effect, command_of};
-use crate::dead_links::{DeadLink, dead_links_of};
-use crate::moving::{Moving, moving_of};
+use crate::arguments::{Effect, Task, task_of};
+use crate::dead_links::{Checked, check_links};
+use crate::destinations::{NewKind, whole_moves};
+use crate::move_list::moves_of_list;
+use crate::moved::{MadeMoves, StoreBefore, keep_dead_targets};
+use crate::moving::{Moving, WhyRefused, moving_of};
 use crate::report::{
     HELP, USAGE, print_changes, print_dead_link, print_dead_link_as_json, print_end, print_failure,
     print_remarks, print_remarks_as_json, remarks_of,
 };
 use crate::summary::{
-    Counts, counts_of, print_did, print_moving, print_moving_as_json, print_refused, print_would,
+    Counts, Style, counts_of, print_checked, print_checked_as_json, print_did, print_moving,
+    print_moving_as_json, print_refused, print_would,
 };
-use crate::tree::{Tree, has_reserved_name, read_tree};
+use crate::tree::{Page, Tree, has_reserved_name, read_tree};
 use crate::writable::need_writable;
-use relmove_plan::NameRule;
+use relative_path_links::MovedSitePage;
+use relmove_actions::Actions;
+use relmove_plan::{NameRule, Plan};
 use relmove_run::{
-    Call, Ended, Fault, Locked, Machine, PageText, Printable, Remark, StoppedRun, Store, Trust,
-    Way, carry_out, directory_of, fault_of, need_no_journal_below, need_no_journal_near,
-    need_no_own_files, need_possible, need_rest, resume, undo,
+    Direction, Ended, Locked, Machine, PageText, Printable, Remark, RunFault, StoppedRun, Store,
+    SystemCall, Trust, at, carry_out, directory_of, fault_of, need_no_journal_below,
+    need_no_journal_near, need_no_run_files, need_possible, need_rest, resume, undo,
 };
 use std::alloc::{AllocError, Global};
-use std::io::{self, Write};
+use std::io::{self, Read, Write};
 
 /// How a call ended.
 #[derive(Clone, Copy, Debug, PartialEq, Eq)]
@@ -47,15 +53,17 @@ impl Status {
 
 const VERSION: &str = "relmove 0.2.0\n";
 
-/// Does what a call with these arguments asks for. The name of the program isn't among the arguments.
-pub fn answer<R: Machine, O: Write, E: Write>(
+/// Does what a call with these arguments asks for. The name of the program isn't among the arguments. The input is read
+/// only if `--moves -` is there.
+pub fn answer<R: Machine, I: Read, O: Write, E: Write>(
     runtime: &R,
     words: &[&str],
+    input: &mut I,
     out: &mut O,
     errors: &mut E,
 ) -> Status {
-    match command_of(runtime.alloc(), words) {
-        Ok(command) => obey(runtime, command, out, errors),
+    match task_of(runtime.alloc(), words) {
+        Ok(command) => obey(runtime, command, input, out, errors),
         Err(wrong) => {
             // If standard error fails, there is nowhere to report it.
             let _ = write!(errors, "relmove: {wrong}\n{USAGE}");
@@ -65,101 +73,255 @@ pub fn answer<R: Machine, O: Write, E: Write>(
 }
 
 // Does what a command asks for.
-fn obey<R: Machine, O: Write, E: Write>(
+fn obey<R: Machine, I: Read, O: Write, E: Write>(
     runtime: &R,
-    command: Command<'_>,
+    command: Task<'_>,
+    input: &mut I,
     out: &mut O,
     errors: &mut E,
 ) -> Status {
     match command {
-        Command::Help => {
+        Task::Help => {
             let outcome = write!(out, "{USAGE}{HELP}");
             print_status(outcome, Status::Kept, out)
         }
-        Command::Version => {
+        Task::Version => {
             let outcome = write!(out, "{VERSION}");
             print_status(outcome, Status::Kept, out)
         }
-        Command::Check { root, json } => check(runtime, root, json, out, errors),
-        Command::End { root, way, trust } => end_run(runtime, root, (way, trust), out, errors),
-        Command::Move {
+        Task::Check {
+            root,
+            excluded,
+            json,
+            verbose,
+        } => {
+            let options = CheckOptions {
+                excluded: &excluded,
+                json,
+                verbose,
+            };
+            check(runtime, root, options, out, errors)
+        }
+        Task::End {
+            root,
+            direction,
+            effect,
+        } => end_run(runtime, root, (direction, effect), out, errors),
+        Task::Move {
             root,
             moves,
+            list,
+            made,
+            into,
+            excluded,
             write,
             json,
+            verbose,
             rule,
         } => {
-            let options = MoveOptions { write, json, rule };
-            move_below(runtime, root, &moves, options, out, errors)
+            let options = MoveOptions {
+                kind: new_kind(into, made),
+                made,
+                excluded: &excluded,
+                write,
+                json,
+                verbose,
+                rule,
+            };
+            move_below(runtime, root, (&moves, list), options, input, out, errors)
         }
     }
+}
+
+// What each NEW is. Where the files have moved already, a directory NEW may be OLD itself.
+fn new_kind(into: bool, made: bool) -> NewKind {
+    match (into, made) {
+        (true, _) => NewKind::Directory,
+        (false, true) => NewKind::Whole,
+        (false, false) => NewKind::AsFound,
+    }
+}
+
+// The options of a call that checks links.
+#[derive(Clone, Copy)]
+struct CheckOptions<'a> {
+    excluded: &'a [&'a str],
+    json: bool,
+    verbose: bool,
 }
 
 // The options of a call that moves files.
 #[derive(Clone, Copy)]
-struct MoveOptions {
+struct MoveOptions<'a> {
+    kind: NewKind,
+    made: bool,
+    excluded: &'a [&'a str],
     write: bool,
     json: bool,
+    verbose: bool,
     rule: NameRule,
 }
 
-// Moves files below a root, or prints what would change.
-fn move_below<R: Machine, O: Write, E: Write>(
+impl MoveOptions<'_> {
+    // How the plan is printed.
+    fn style(&self) -> Style {
+        Style {
+            verbose: self.verbose,
+            made: self.made,
+        }
+    }
+}
+
+// Moves files below a root, or prints what would change. The words of the call have the moves, or a file has them.
+fn move_below<'m, R: Machine, I: Read, O: Write, E: Write>(
     runtime: &R,
     root: &str,
-    moves: &[(&str, &str)],
-    options: MoveOptions,
+    (moves, list): (&[(&'m str, &'m str)], Option<&str>),
+    options: MoveOptions<'_>,
+    input: &mut I,
     out: &mut O,
     errors: &mut E,
 ) -> Status {
-    let moved = if options.write {
-        move_and_write(runtime, root, moves, options, out, errors)
-    } else {
-        move_and_print(runtime, root, moves, options, out, errors)
+    let moved = match list {
+        None => move_all(runtime, root, moves, options, out, errors),
+        Some(file) => move_listed(runtime, root, file, options, input, out, errors),
     };
     match moved {
         Ok(status) | Err(CallEnd::Status(status)) => status,
-        Err(CallEnd::Fault(fault)) => refuse(root, &fault, errors),
+        Err(CallEnd::RunFault(fault)) => refuse(root, &fault, errors),
     }
+}
+
+// Moves files, or prints what would change.
+fn move_all<'m, R: Machine, O: Write, E: Write>(
+    runtime: &R,
+    root: &str,
+    moves: &[(&'m str, &'m str)],
+    options: MoveOptions<'_>,
+    out: &mut O,
+    errors: &mut E,
+) -> Result<Status, CallEnd> {
+    if options.write {
+        move_and_write(runtime, root, moves, options, out, errors)
+    } else {
+        move_and_print(runtime, root, moves, options, out, errors)
+    }
+}
+
+// The name of the list on standard input.
+const STANDARD_INPUT: &str = "-";
+
+// Moves files, or prints what would change, by a list of moves.
+fn move_listed<R: Machine, I: Read, O: Write, E: Write>(
+    runtime: &R,
+    root: &str,
+    file: &str,
+    options: MoveOptions<'_>,
+    input: &mut I,
+    out: &mut O,
+    errors: &mut E,
+) -> Result<Status, CallEnd> {
+    let alloc = runtime.alloc();
+    let name = if file == STANDARD_INPUT {
+        "standard input"
+    } else {
+        file
+    };
+    let bytes = at(
+        alloc,
+        SystemCall::Read,
+        name,
+        bytes_of_list(runtime, file, input),
+    )?;
+    let Ok(text) = String::from_utf8(bytes) else {
+        let name = Printable(name);
+        let _ = writeln!(errors, "relmove: {name}: it isn't UTF-8");
+        return Err(CallEnd::Status(Status::Refused));
+    };
+    match moves_of_list(alloc, text.as_str()) {
+        Ok(listed) => {
+            let moves = texts_of(alloc, &listed)?;
+            move_all(runtime, root, &moves, options, out, errors)
+        }
+        Err(wrong) => {
+            let name = Printable(name);
+            let _ = writeln!(errors, "relmove: {name}: {wrong}");
+            Err(CallEnd::Status(Status::Refused))
+        }
+    }
+}
+
+// The bytes of a list of moves.
+fn bytes_of_list<R: Machine, I: Read>(
+    runtime: &R,
+    file: &str,
+    input: &mut I,
+) -> io::Result<Vec<u8>> {
+    if file == STANDARD_INPUT {
+        let mut bytes = Vec::new(runtime.alloc());
+        input.read_to_end(&mut bytes)?;
+        return Ok(bytes);
+    }
+    let mut store = runtime.store_at(file)?;
+    store.read("")
+}
+
+// The paths of moves, as texts.
+fn texts_of<'a>(
+    alloc: Global,
+    moves: &'a [(String, String)],
+) -> Result<Vec<(&'a str, &'a str)>, AllocError> {
+    let mut texts = Vec::with_capacity(alloc, moves.len())?;
+    for (old, new) in moves {
+        texts.push((old.as_str(), new.as_str()))?;
+    }
+    Ok(texts)
 }
 
 // Why a call that moves files ends before its end.
 #[derive(Drop)]
 enum CallEnd {
     // A fault, of which nothing is printed yet.
-    Fault(Fault),
+    RunFault(RunFault),
     // The reason is printed, and this is the call's status.
     Status(Status),
 }
 
-impl From<Fault> for CallEnd {
-    fn from(fault: Fault) -> CallEnd {
-        CallEnd::Fault(fault)
+impl From<RunFault> for CallEnd {
+    fn from(fault: RunFault) -> CallEnd {
+        CallEnd::RunFault(fault)
     }
 }
 
 impl From<AllocError> for CallEnd {
     fn from(_: AllocError) -> CallEnd {
-        CallEnd::Fault(Fault::OutOfMemory)
+        CallEnd::RunFault(RunFault::OutOfMemory)
     }
 }
 
 // Prints what moves would change.
-fn move_and_print<R: Machine, O: Write, E: Write>(
+fn move_and_print<'m, R: Machine, O: Write, E: Write>(
     runtime: &R,
     root: &str,
-    moves: &[(&str, &str)],
-    options: MoveOptions,
+    moves: &[(&'m str, &'m str)],
+    options: MoveOptions<'_>,
     out: &mut O,
     errors: &mut E,
 ) -> Result<Status, CallEnd> {
+    let alloc = runtime.alloc();
     let mut store = runtime.store_at(root)?;
     let mut near = need_rest(&mut store)?;
-    let tree = read_whole(&mut store, &mut near, errors)?;
-    let (moving, counts, status) = plan(&mut store, &tree, moves, options, out, errors)?;
+    let tree = read_whole(&mut store, options.excluded, &mut near, errors)?;
+    let whole = whole_moves(alloc, &tree, moves, options.kind)?;
+    let moves = texts_of(alloc, &whole)?;
+    let made = made_moves(&store, &tree, &moves, options, errors)?;
+    let tree = tree_before(alloc, tree, &made)?;
+    let (moving, counts, status) = plan_any(
+        &mut store, &tree, &moves, &made, options, out, errors,
+    )?;
     need_writable(&mut store, &tree, &moving.plan)?;
-    need_possible(&mut store, &moving.plan.steps)?;
-    let outcome = print_rest(runtime.alloc(), root, &near, counts, options, out);
+    need_possible(&mut store, &moving.plan.actions)?;
+    let outcome = print_rest(alloc, root, &near, counts, options, out);
     let status = if near.is_empty() {
         status
     } else {
@@ -174,7 +336,7 @@ fn print_rest<O: Write>(
     root: &str,
     near: &[Remark],
     counts: Counts,
-    options: MoveOptions,
+    options: MoveOptions<'_>,
     out: &mut O,
 ) -> io::Result<()> {
     if options.json {
@@ -185,58 +347,200 @@ fn print_rest<O: Write>(
 }
 
 // Moves files.
-fn move_and_write<R: Machine, O: Write, E: Write>(
+fn move_and_write<'m, R: Machine, O: Write, E: Write>(
     runtime: &R,
     root: &str,
-    moves: &[(&str, &str)],
-    options: MoveOptions,
+    moves: &[(&'m str, &'m str)],
+    options: MoveOptions<'_>,
     out: &mut O,
     errors: &mut E,
 ) -> Result<Status, CallEnd> {
+    let alloc = runtime.alloc();
     let mut locked = lock(runtime, root)?;
-    need_no_own_files(locked.store())?;
+    need_no_run_files(locked.store())?;
     // The run names these at its end.
     let mut near = need_no_journal_near(locked.store(), &[])?;
-    let tree = read_whole(locked.store(), &mut near, errors)?;
-    let (moving, counts, status) = plan(locked.store(), &tree, moves, options, out, errors)?;
-    let alloc = runtime.alloc();
-    let directories = directories_of(alloc, &tree)?;
-    let texts = old_texts(alloc, &tree, &moving)?;
+    let tree = read_whole(locked.store(), options.excluded, &mut near, errors)?;
+    let whole = whole_moves(alloc, &tree, moves, options.kind)?;
+    let moves = texts_of(alloc, &whole)?;
+    let made = made_moves(locked.store(), &tree, &moves, options, errors)?;
+    let tree = tree_before(alloc, tree, &made)?;
+    let (moving, counts, status) = plan_any(
+        locked.store(),
+        &tree,
+        &moves,
+        &made,
+        options,
+        out,
+        errors,
+    )?;
     need_writable(locked.store(), &tree, &moving.plan)?;
-    let ended = carry_out(locked, moving.plan.steps, &texts, &directories);
+    let (pages, actions) = parts_of(moving);
+    let Tree {
+        pages: read,
+        directories,
+        ..
+    } = tree;
+    let read = if options.made {
+        at_new_paths(alloc, read, &pages)?
+    } else {
+        read
+    };
+    let texts = old_texts(alloc, &read, &pages)?;
+    let directories = directories_of(alloc, &directories)?;
+    let ended = if is_nothing(&actions) {
+        Ended::Done(near)
+    } else {
+        carry_out(locked, actions, &texts, &directories)
+    };
     let done = (counts, status);
     Ok(print_run(alloc, root, ended, done, options, out, errors))
 }
 
-// Plans moves, and prints what they do. Returns the plan, what is counted of it, and the status of a run that does all of
-// it.
-fn plan<'a, S: Store, O: Write, E: Write>(
+// The pages after moves, and the actions of their run.
+fn parts_of(moving: Moving<'_, '_>) -> (Vec<MovedSitePage>, Actions) {
+    let Plan { pages, actions, .. } = moving.plan;
+    (pages, actions)
+}
+
+// Pages that were read, with their paths after moves.
+fn at_new_paths(
+    alloc: Global,
+    mut read: Vec<Page>,
+    pages: &[MovedSitePage],
+) -> Result<Vec<Page>, AllocError> {
+    let mut number = 0usize;
+    for page in read.iter_mut() {
+        if let Some(new) = pages.get(number) {
+            page.path = String::from_str(alloc, new.path.as_relative_path().as_str())?;
+        }
+        number = number.saturating_add(1);
+    }
+    Ok(read)
+}
+
+// Whether a run has nothing to do.
+fn is_nothing(actions: &Actions) -> bool {
+    actions.staged.is_empty()
+}
+
+// Returns the moves that were made before the call, if they were.
+fn made_moves<'m, S: Store, E: Write>(
+    store: &S,
+    tree: &Tree,
+    moves: &[(&'m str, &'m str)],
+    options: MoveOptions<'_>,
+    errors: &mut E,
+) -> Result<Option<MadeMoves<'m>>, CallEnd> {
+    if !options.made {
+        return Ok(None);
+    }
+    match MadeMoves::of(store.alloc(), tree, moves) {
+        Ok(made) => Ok(Some(made)),
+        Err(why) => Err(refuse_moves(store, tree, moves, &why, errors)),
+    }
+}
+
+// The tree before the moves.
+fn tree_before(
+    alloc: Global,
+    tree: Tree,
+    made: &Option<MadeMoves<'_>>,
+) -> Result<Tree, AllocError> {
+    match made {
+        Some(made) => made.tree_before(alloc, tree),
+        None => Ok(tree),
+    }
+}
+
+// Prints why moves are refused, and returns the end of the call.
+fn refuse_moves<S: Store, E: Write>(
+    store: &S,
+    tree: &Tree,
+    moves: &[(&str, &str)],
+    why: &WhyRefused,
+    errors: &mut E,
+) -> CallEnd {
+    let _ = print_refused(errors, store, tree, moves, why);
+    CallEnd::Status(Status::Refused)
+}
+
+// Plans moves, also those that were made before the call, and prints what they do. Of the latter only the new texts of pages
+// are left to do.
+fn plan_any<'a, 'm, S: Store, O: Write, E: Write>(
     store: &mut S,
     tree: &'a Tree,
-    moves: &[(&str, &str)],
-    options: MoveOptions,
+    moves: &[(&'m str, &'m str)],
+    made: &Option<MadeMoves<'m>>,
+    options: MoveOptions<'_>,
     out: &mut O,
     errors: &mut E,
-) -> Result<(Moving<'a>, Counts, Status), CallEnd> {
-    let moving = match moving_of(store, tree, moves, options.rule) {
-        Ok(moving) => moving,
-        Err(why) => {
-            let _ = print_refused(errors, store.root(), tree, moves, &why);
-            return Err(CallEnd::Status(Status::Refused));
-        }
+) -> Result<(Moving<'a, 'm>, Counts, Status), CallEnd> {
+    let Some(made) = made else {
+        return plan(store, tree, moves, options, out, errors);
     };
-    let counts = counts_of(store.alloc(), tree, moves, &moving)?;
+    let alloc = store.alloc();
+    let mut before = StoreBefore::new(store, made);
+    let (moving, counts, status) = plan(&mut before, tree, moves, options, out, errors)?;
+    match made.actions_now(alloc, tree, &moving.plan.pages) {
+        Ok(actions) => Ok((with_actions(moving, actions), counts, status)),
+        Err(refusal) => {
+            let why = WhyRefused::Plan(refusal);
+            Err(refuse_moves(&before, tree, moves, &why, errors))
+        }
+    }
+}
+
+// What moves do, with other actions.
+fn with_actions<'a, 'm>(moving: Moving<'a, 'm>, actions: Actions) -> Moving<'a, 'm> {
+    let Moving { plan, left, lost } = moving;
+    let Plan {
+        moves,
+        pages,
+        symlinks,
+        ..
+    } = plan;
+    Moving {
+        plan: Plan {
+            moves,
+            pages,
+            symlinks,
+            actions,
+        },
+        left,
+        lost,
+    }
+}
+
+// Plans moves, and prints what they do. Returns the plan, what is counted of it, and the status of a run that does all of
+// it.
+fn plan<'a, 'm, S: Store, O: Write, E: Write>(
+    store: &mut S,
+    tree: &'a Tree,
+    moves: &[(&'m str, &'m str)],
+    options: MoveOptions<'_>,
+    out: &mut O,
+    errors: &mut E,
+) -> Result<(Moving<'a, 'm>, Counts, Status), CallEnd> {
+    let mut moving = match moving_of(store, tree, moves, options.rule) {
+        Ok(moving) => moving,
+        Err(why) => return Err(refuse_moves(store, tree, moves, &why, errors)),
+    };
+    if options.made {
+        keep_dead_targets(store, tree, &mut moving.plan.pages)?;
+    }
+    let counts = counts_of(store.alloc(), tree, moves, &moving, options.made)?;
     if print_plan(store, tree, &moving, options, out).is_err() {
         return Err(CallEnd::Status(Status::Refused));
     }
-    let status = status_of_moving(&moving);
+    let status = status_of_moving(tree, moves, &moving);
     Ok((moving, counts, status))
 }
 
-// The directories below the root that were read.
-fn directories_of(alloc: Global, tree: &Tree) -> Result<Vec<&str>, AllocError> {
-    let mut directories = Vec::with_capacity(alloc, tree.directories.len())?;
-    for directory in &tree.directories {
+// The directories below the root that were read, as texts.
+fn directories_of(alloc: Global, read: &[String]) -> Result<Vec<&str>, AllocError> {
+    let mut directories = Vec::with_capacity(alloc, read.len())?;
+    for directory in read {
         directories.push(directory.as_str())?;
     }
     Ok(directories)
@@ -245,11 +549,11 @@ fn directories_of(alloc: Global, tree: &Tree) -> Result<Vec<&str>, AllocError> {
 // The pages that change, with their texts before.
 fn old_texts<'a>(
     alloc: Global,
-    tree: &'a Tree,
-    moving: &Moving<'_>,
+    read: &'a [Page],
+    pages: &[MovedSitePage],
 ) -> Result<Vec<PageText<'a>>, AllocError> {
     let mut texts = Vec::new(alloc);
-    for (page, new) in tree.pages.iter().zip(&moving.plan.pages) {
+    for (page, new) in read.iter().zip(pages) {
         if new.text.is_some() {
             texts.push(PageText {
                 path: page.path.as_str(),
@@ -262,16 +566,17 @@ fn old_texts<'a>(
 }
 
 // Prints why a call is refused.
-fn refuse<E: Write>(root: &str, fault: &Fault, errors: &mut E) -> Status {
+fn refuse<E: Write>(root: &str, fault: &RunFault, errors: &mut E) -> Status {
     let root = Printable(root);
     let _ = writeln!(errors, "relmove: {root}: {fault}");
     Status::Refused
 }
 
-// The status of a run that does all of the plan.
-fn status_of_moving(moving: &Moving<'_>) -> Status {
+// The status of a run that does all of the plan. A page whose links aren't read may have one that is left.
+fn status_of_moving(tree: &Tree, moves: &[(&str, &str)], moving: &Moving<'_, '_>) -> Status {
     let keeps_symlinks = moving.plan.symlinks.is_empty() && moving.lost.is_empty();
-    if keeps_symlinks && !moving.left.iter().any(|link| link.leads) {
+    let reads_links = moves.is_empty() || tree.not_text.is_empty() && tree.with_base.is_empty();
+    if keeps_symlinks && reads_links && !moving.left.iter().any(|link| link.leads) {
         Status::Kept
     } else {
         Status::LinksLeft
@@ -282,14 +587,14 @@ fn status_of_moving(moving: &Moving<'_>) -> Status {
 fn print_plan<S: Store, O: Write>(
     store: &S,
     tree: &Tree,
-    moving: &Moving<'_>,
-    options: MoveOptions,
+    moving: &Moving<'_, '_>,
+    options: MoveOptions<'_>,
     out: &mut O,
 ) -> io::Result<()> {
     if options.json {
-        print_moving_as_json(store.alloc(), out, tree, moving)?;
+        print_moving_as_json(store.alloc(), out, tree, moving, options.style())?;
     } else {
-        print_moving(out, store.root(), tree, moving)?;
+        print_moving(out, store, tree, moving, options.style())?;
     }
     out.flush()
 }
@@ -300,7 +605,7 @@ fn print_run<O: Write, E: Write>(
     root: &str,
     ended: Ended,
     (counts, status): (Counts, Status),
-    options: MoveOptions,
+    options: MoveOptions<'_>,
     out: &mut O,
     errors: &mut E,
 ) -> Status {
@@ -348,12 +653,13 @@ fn is_done_whole(ended: &Ended) -> bool {
 // run's. Adds the journals of other users in it to those that are near.
 fn read_whole<S: Store, E: Write>(
     store: &mut S,
+    excluded: &[&str],
     near: &mut Vec<Remark>,
     errors: &mut E,
-) -> Result<Tree, Fault> {
+) -> Result<Tree, RunFault> {
     let alloc = store.alloc();
-    let tree = read_tree(store)?;
-    for remark in need_no_journal_below(store, &directories_of(alloc, &tree)?)? {
+    let tree = read_tree(store, excluded)?;
+    for remark in need_no_journal_below(store, &directories_of(alloc, &tree.directories)?)? {
         near.push(remark)?;
     }
     print_unread(store.root(), &tree, near, errors);
@@ -381,39 +687,40 @@ fn print_status<O: Write>(outcome: io::Result<()>, status: Status, out: &mut O) 
 fn check<R: Machine, O: Write, E: Write>(
     runtime: &R,
     root: &str,
-    json: bool,
+    options: CheckOptions<'_>,
     out: &mut O,
     errors: &mut E,
 ) -> Status {
-    match find_dead_links(runtime, root, errors) {
-        Ok(links) => {
-            let outcome = print_links(runtime.alloc(), root, json, &links, out);
-            print_status(outcome, status_of_links(&links), out)
+    match find_dead_links(runtime, root, options.excluded, errors) {
+        Ok(checked) => {
+            let outcome = print_links(runtime.alloc(), root, options, &checked, out);
+            print_status(outcome, status_of_links(&checked), out)
         }
         Err(fault) => refuse(root, &fault, errors),
     }
 }
 
-// The status of a check that finds these dead links.
-fn status_of_links(links: &[DeadLink]) -> Status {
-    if links.is_empty() {
+// The status of a check of these links.
+fn status_of_links(checked: &Checked) -> Status {
+    if checked.dead.is_empty() {
         Status::Kept
     } else {
         Status::LinksLeft
     }
 }
 
-// The dead links below a root.
+// Checks the links below a root.
 fn find_dead_links<R: Machine, E: Write>(
     runtime: &R,
     root: &str,
+    excluded: &[&str],
     errors: &mut E,
-) -> Result<Vec<DeadLink>, Fault> {
+) -> Result<Checked, RunFault> {
     let mut store = runtime.store_at(root)?;
     let mut near = need_rest(&mut store)?;
-    let tree = read_whole(&mut store, &mut near, errors)?;
+    let tree = read_whole(&mut store, excluded, &mut near, errors)?;
     let _ = print_remarks(errors, root, &near);
-    dead_links_of(&mut store, &tree)
+    check_links(&mut store, &tree)
 }
 
 // Prints what isn't read, and what has a name of relmove's own beside none of these journals.
@@ -452,35 +759,39 @@ fn print_unread<E: Write>(root: &str, tree: &Tree, journals: &[Remark], errors: 
     }
 }
 
-// Prints dead links.
+// Prints dead links, and how much was read, if the call asks for it.
 fn print_links<O: Write>(
     alloc: Global,
     root: &str,
-    json: bool,
-    links: &[DeadLink],
+    options: CheckOptions<'_>,
+    checked: &Checked,
     out: &mut O,
 ) -> io::Result<()> {
-    for link in links {
-        if json {
+    for link in &checked.dead {
+        if options.json {
             print_dead_link_as_json(alloc, out, link)?;
         } else {
             print_dead_link(out, root, link)?;
         }
     }
-    Ok(())
+    match (options.verbose, options.json) {
+        (false, _) => Ok(()),
+        (true, false) => print_checked(out, checked),
+        (true, true) => print_checked_as_json(alloc, out, checked),
+    }
 }
 
 // Ends a run that stopped.
 fn end_run<R: Machine, O: Write, E: Write>(
     runtime: &R,
     root: &str,
-    (way, trust): (Way, Option<Effect>),
+    (direction, effect): (Direction, Option<Effect>),
     out: &mut O,
     errors: &mut E,
 ) -> Status {
-    let ended = match trust {
-        None => end_of_this_folder(runtime, root, way),
-        Some(effect) => match end_of_any_folder(runtime, root, way, effect, out) {
+    let ended = match effect {
+        None => end_of_this_folder(runtime, root, direction),
+        Some(effect) => match end_of_any_folder(runtime, root, direction, effect, out) {
             Ok(Some(ended)) => Ok(ended),
             Ok(None) => return print_status(Ok(()), Status::Kept, out),
             Err(fault) => Err(fault),
@@ -493,11 +804,15 @@ fn end_run<R: Machine, O: Write, E: Write>(
 }
 
 // Ends a run that stopped, if its journal was written in this folder.
-fn end_of_this_folder<R: Machine>(runtime: &R, root: &str, way: Way) -> Result<Ended, Fault> {
+fn end_of_this_folder<R: Machine>(
+    runtime: &R,
+    root: &str,
+    direction: Direction,
+) -> Result<Ended, RunFault> {
     let locked = lock(runtime, root)?;
-    Ok(match way {
-        Way::Resume => resume(locked, Trust::ThisFolder),
-        Way::Undo => undo(locked, Trust::ThisFolder),
+    Ok(match direction {
+        Direction::Resume => resume(locked, Trust::ThisFolder),
+        Direction::Undo => undo(locked, Trust::ThisFolder),
     })
 }
 
@@ -505,25 +820,25 @@ fn end_of_this_folder<R: Machine>(runtime: &R, root: &str, way: Way) -> Result<E
 fn end_of_any_folder<R: Machine, O: Write>(
     runtime: &R,
     root: &str,
-    way: Way,
+    direction: Direction,
     effect: Effect,
     out: &mut O,
-) -> Result<Option<Ended>, Fault> {
+) -> Result<Option<Ended>, RunFault> {
     let mut locked = lock(runtime, root)?;
     let run = StoppedRun::read(&mut locked, Trust::AnyFolder)?;
-    let changes = run.changes(runtime.alloc(), way)?;
+    let changes = run.changes(runtime.alloc(), direction)?;
     // A call that can't print them must not make them.
     if let Err(error) = print_changes(out, root, &changes) {
-        return Err(fault_of(runtime.alloc(), Call::Write, "the output", &error));
+        return Err(fault_of(runtime.alloc(), SystemCall::Write, "the output", &error));
     }
     match effect {
         Effect::Print => Ok(None),
-        Effect::Write => Ok(Some(run.end(locked, way))),
+        Effect::Write => Ok(Some(run.end(locked, direction))),
     }
 }
 
 // Takes the lock of a root.
-fn lock<R: Machine>(runtime: &R, root: &str) -> Result<Locked<R::Store>, Fault> {
+fn lock<R: Machine>(runtime: &R, root: &str) -> Result<Locked<R::Store>, RunFault> {
     Locked::new(runtime.store_at(root)?)
 }
 

@@ -136,8 +136,8 @@ impl<R: Clock + Eprint, S: Store + Drop> Store for StoreWithProgress<'_, R, S> {
         self.store.list(path)
     }
 
-    fn read_link(&mut self, path: &str) -> io::Result<Option<String>> {
-        self.store.read_link(path)
+    fn read_symlink(&mut self, path: &str) -> io::Result<Option<String>> {
+        self.store.read_symlink(path)
     }
 
     fn read(&mut self, path: &str) -> io::Result<Vec<u8>> {
@@ -189,8 +189,8 @@ impl<R: Clock + Eprint, S: Store + Drop> Store for StoreWithProgress<'_, R, S> {
         self.store.rename(from, to)
     }
 
-    fn link(&mut self, from: &str, to: &str) -> io::Result<()> {
-        self.store.link(from, to)
+    fn hard_link(&mut self, from: &str, to: &str) -> io::Result<()> {
+        self.store.hard_link(from, to)
     }
 
     fn make_directory(&mut self, path: &str, mode: u32) -> io::Result<()> {

@@ -1,14 +1,17 @@
 //! What a call prints.
 use crate::dead_links::DeadLink;
 use crate::position::Position;
-use relmove_run::{Change, Ended, Fault, Printable, Remark, Stage};
+use relmove_run::{Change, Ended, Printable, Remark, RunFault, Stage};
 use serde_json::json;
 use std::alloc::Global;
 use std::io::{self, Write};
 
 /// The usage of the program.
-pub const USAGE: &str = "usage: relmove [--write] [--json] [--any-name] ROOT OLD NEW [OLD NEW]...
-       relmove --check [--json] ROOT
+pub const USAGE: &str =
+    "usage: relmove [--write] [--json] [--verbose] [--any-name] [--moved] [--exclude PATH]... ROOT OLD NEW [OLD NEW]...
+       relmove [--write] [--json] [--verbose] [--any-name] [--moved] [--exclude PATH]... --into DIR ROOT OLD...
+       relmove [--write] [--json] [--verbose] [--any-name] [--moved] [--exclude PATH]... --moves FILE ROOT
+       relmove --check [--json] [--verbose] [--exclude PATH]... ROOT
        relmove --resume [--trust-journal [--write]] ROOT
        relmove --undo [--trust-journal [--write]] ROOT
        relmove --help | --version
@@ -17,14 +20,23 @@ pub const USAGE: &str = "usage: relmove [--write] [--json] [--any-name] ROOT OLD
 /// The help of the program, after its usage.
 pub const HELP: &str = "
 Moves files and directories below the directory ROOT, and changes the relative links of the pages below ROOT, so that
-each such link still leads to the file to which it led. OLD and NEW are paths below ROOT. NEW is the whole new path:
-nothing is moved into a directory NEW, and nothing that is there is replaced. Missing directories are made. Without
---write nothing is changed, and the output says what would be changed.
+each such link still leads to the file to which it led. OLD and NEW are paths below ROOT. If NEW is a directory that is
+there and doesn't move itself, OLD moves into it, and so does a file if NEW ends in a slash. Else NEW is the whole new
+path. Nothing that is there is replaced. Missing directories are made. Without --write nothing is changed, and the
+output says what would be changed.
 
   --write     move the files, and write the pages; a page that changes loses its access control list and its extended
               attributes
   --json      print an object of JSON on each line
+  --verbose   print each old and new target, and with --check how much was read: relmove --check --verbose docs
   --any-name  allow a NEW that isn't a plain name on every platform
+  --into DIR  move each OLD into DIR, a path below ROOT, or . for ROOT: relmove --into img docs a.png guide/b.png
+  --moved     only change the pages, since the files have moved already: relmove --moved --write docs old.md new.md
+  --moves FILE
+              take OLD, a tab and NEW from each line of FILE, or of standard input if FILE is -, or a rename as git says it:
+              git -C docs diff --relative -M --name-status HEAD | relmove --moved --moves - --write docs
+  --exclude PATH
+              read no page at or below PATH, a path below ROOT: relmove --exclude api --check docs
   --check     print each relative link of a page that leads above ROOT, or to a path below ROOT where nothing is
   --resume    end a run that stopped: the run goes on, or, if it was going back, it goes back
   --undo      take back a run that stopped before everything was at its new path
@@ -33,23 +45,23 @@ nothing is moved into a directory NEW, and nothing that is there is replaced. Mi
               print what it asks for, and do it only with --write
   --          the words after it are paths, also if they begin with -
 
-Pages are the files below ROOT whose names end in .md or .markdown, and that are UTF-8. Pages with a name in their path
-that begins with a dot are neither read nor changed. Links are those of Markdown, and the attributes href and src of
-HTML in a page. The links of a page with a <base href> aren't read. A link that begins with a slash isn't relative, and
-isn't changed. Links in other files, such as HTML, aren't changed. Fragments aren't checked. Symbolic links aren't
-followed.
+Pages are the files below ROOT whose names end in .md or .markdown, in any case, and that are UTF-8. Pages with a name
+in their path that begins with a dot, other than .github, are neither read nor changed. Links are those of Markdown,
+and the attributes href and src of HTML in a page. The links of a page with a <base href> aren't read. A link that
+begins with a slash isn't relative, and isn't changed. Links in other files, such as HTML, aren't changed. Fragments
+aren't checked. Symbolic links aren't followed.
 
 A directory that a run leaves empty is removed, unless a link of a page leads to it. A run with --write first locks
-ROOT and writes the file ROOT/.relmove, its journal. The run gives all that moves and all pages that change names
-in its own directory, ROOT/.relmove-run, and then their new paths. At its end the run removes both. If a run stops in
-the middle, also by a loss of power, --resume or --undo ends this run, and no file is lost. One thing isn't safe: another
+ROOT and writes the file ROOT/.relmove, its journal. The run gives all that moves and all pages that change names in
+its own directory, ROOT/.relmove-run, and then their new paths. At its end the run removes both. If a run stops in the
+middle, also by a loss of power, --resume or --undo ends this run, and no file is lost. One thing isn't safe: another
 program that puts a file at a path while relmove renames a file to it. A text that somebody changes during the run is
 kept, and printed.
 
-Exit status: 0 if all is done, 1 if a link is left that led to a file, or may have, or if a symbolic link moves or
-leads to what moves, or if a run left something to look at, such as a text that was changed during the run (with
---check: if a link is dead), 2 if the call was wrong or failed and nothing was changed, 3 if a run stopped in the
-middle.
+Exit status: 0 if all is done, 1 if a link is left that led to a file, or may have, or if a page isn't UTF-8 or has a
+<base href>, or if a symbolic link moves or leads to what moves, or if a run left something to look at, such as a text
+that was changed during the run (with --check: if a link is dead), 2 if the call was wrong or failed and nothing was
+changed, 3 if a run stopped in the middle.
 ";
 
 /// Prints a dead link: page, line, column and target.
@@ -179,7 +191,7 @@ pub fn print_end<W: Write>(out: &mut W, root: &str, ended: &Ended) -> io::Result
 }
 
 // Prints why a run failed.
-fn print_fault<W: Write>(out: &mut W, root: &str, fault: &Fault) -> io::Result<()> {
+fn print_fault<W: Write>(out: &mut W, root: &str, fault: &RunFault) -> io::Result<()> {
     let root = Printable(root);
     writeln!(out, "relmove: {root}: {fault}")
 }

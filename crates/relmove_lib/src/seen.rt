@@ -1,5 +1,5 @@
 //! What the system says is at a path.
-use relmove_run::{Fault, Found, FoundKind, Store};
+use relmove_run::{Found, FoundKind, RunFault, Store};
 use std::io::{self, ErrorKind};
 
 // What a walk finds at a path.
@@ -18,22 +18,22 @@ pub(crate) enum Seen {
 }
 
 // What the system says is at a path, or `None` if nothing is there. What can't be looked up isn't there.
-pub(crate) fn find<S: Store>(store: &mut S, path: &str) -> Result<Option<Found>, Fault> {
+pub(crate) fn find<S: Store>(store: &mut S, path: &str) -> Result<Option<Found>, RunFault> {
     let found = store.find(path);
     known(found)
 }
 
 // What a call says, or `None` if it failed. Fails only for lack of memory.
-pub(crate) fn known<T: Drop>(outcome: io::Result<Option<T>>) -> Result<Option<T>, Fault> {
+pub(crate) fn known<T: Drop>(outcome: io::Result<Option<T>>) -> Result<Option<T>, RunFault> {
     match outcome {
         Ok(value) => Ok(value),
-        Err(error) if error.kind() == ErrorKind::OutOfMemory => Err(Fault::OutOfMemory),
+        Err(error) if error.kind() == ErrorKind::OutOfMemory => Err(RunFault::OutOfMemory),
         Err(_) => Ok(None),
     }
 }
 
 // What a walk finds at a path, as the system says it.
-pub(crate) fn seen_by_system<S: Store>(store: &mut S, path: &str) -> Result<Seen, Fault> {
+pub(crate) fn seen_by_system<S: Store>(store: &mut S, path: &str) -> Result<Seen, RunFault> {
     let Some(found) = find(store, path)? else {
         return Ok(Seen::Nothing);
     };
@@ -42,7 +42,7 @@ pub(crate) fn seen_by_system<S: Store>(store: &mut S, path: &str) -> Result<Seen
         FoundKind::File => Ok(Seen::File),
         FoundKind::Other => Ok(Seen::File),
         FoundKind::Symlink => {
-            let read = store.read_link(path);
+            let read = store.read_symlink(path);
             match known(read)? {
                 Some(text) => Ok(Seen::Symlink(text)),
                 None => Ok(Seen::Nothing),

@@ -1,11 +1,13 @@
 //! What a call that moves files prints.
+use crate::dead_links::Checked;
 use crate::losses::Loss;
 use crate::moving::{LeftLink, LostSymlink, Moving, WhyLeft, WhyRefused, is_directory};
 use crate::position::{Position, Positions};
 use crate::tree::{Page, Tree};
+use relative_path::RelativePath;
 use relative_path_links::{Change, MovedSitePage, Unchanged};
 use relmove_plan::{Refusal, SymlinkNotice};
-use relmove_run::Printable;
+use relmove_run::{Printable, Store};
 use serde_json::json;
 use std::alloc::{AllocError, Global};
 use std::fmt;
@@ -48,9 +50,20 @@ impl fmt::Display for Counted {
     }
 }
 
+/// How a plan is printed.
+#[derive(Clone, Copy, Debug, PartialEq, Eq)]
+pub struct Style {
+    /// Whether each target that changes has a line.
+    pub verbose: bool,
+    /// Whether the moves were made before the call. What moved is then named by its path after the moves.
+    pub made: bool,
+}
+
 /// How many pages change, and how many files and directories move.
 #[derive(Clone, Copy, Debug, PartialEq, Eq)]
 pub struct Counts {
+    /// Whether files and directories moved before the call.
+    pub made: bool,
     /// Pages that change.
     pub pages: usize,
     /// Files that move, and symbolic links.
@@ -64,7 +77,8 @@ pub fn counts_of(
     alloc: Global,
     tree: &Tree,
     moves: &[(&str, &str)],
-    moving: &Moving<'_>,
+    moving: &Moving<'_, '_>,
+    made: bool,
 ) -> Result<Counts, AllocError> {
     let mut directories = 0usize;
     for (old, _) in moves {
@@ -73,6 +87,7 @@ pub fn counts_of(
         }
     }
     Ok(Counts {
+        made,
         pages: changed_page_count(&moving.plan.pages),
         files: moves.len().saturating_sub(directories),
         directories,
@@ -85,27 +100,94 @@ fn changed_page_count(pages: &[MovedSitePage]) -> usize {
 }
 
 /// Prints what moves do: the pages that change, the links that no longer lead to their file or may not, and symbolic links.
-pub fn print_moving<W: Write>(
+pub fn print_moving<W: Write, S: Store>(
     out: &mut W,
-    root: &str,
+    store: &S,
     tree: &Tree,
-    moving: &Moving<'_>,
+    moving: &Moving<'_, '_>,
+    style: Style,
 ) -> io::Result<()> {
+    let (alloc, root) = (store.alloc(), store.root());
     for (page, new) in tree.pages.iter().zip(&moving.plan.pages) {
         if new.text.is_some() {
             print_changed_page(out, root, page.path.as_str(), new)?;
         }
+        if style.verbose {
+            print_changed_links(out, root, page, new, style)?;
+        }
     }
     for link in &moving.left {
-        print_left_link(out, root, link)?;
+        let page = printed_path(alloc, moving, style, link.page)?;
+        print_left_link(out, root, page.as_str(), link)?;
     }
     for notice in &moving.plan.symlinks {
-        print_notice(out, root, notice)?;
+        let path = notice.path.as_relative_path().as_str();
+        let path = printed_path(alloc, moving, style, path)?;
+        print_notice(out, root, path.as_str(), notice)?;
     }
     for symlink in &moving.lost {
-        print_lost_symlink(out, root, symlink)?;
+        let path = printed_path(alloc, moving, style, symlink.path)?;
+        print_lost_symlink(out, root, path.as_str(), symlink)?;
     }
     Ok(())
+}
+
+// The path by which something is named: the one before the moves, unless they were made before the call.
+fn printed_path(
+    alloc: Global,
+    moving: &Moving<'_, '_>,
+    style: Style,
+    path: &str,
+) -> Result<String, AllocError> {
+    if !style.made {
+        return String::from_str(alloc, path);
+    }
+    let now = moving
+        .plan
+        .moves
+        .path_after(alloc, RelativePath::new(path))?;
+    Ok(now.into_relative_path_buf().into_string())
+}
+
+// The path by which a page is named.
+fn page_path<'a>(page: &'a Page, new: &'a MovedSitePage, style: Style) -> &'a str {
+    if style.made {
+        new.path.as_relative_path().as_str()
+    } else {
+        page.path.as_str()
+    }
+}
+
+// Prints the links of a page that change: where the target begins, the target and the new one.
+fn print_changed_links<'a, W: Write>(
+    out: &mut W,
+    root: &'a str,
+    page: &'a Page,
+    new: &'a MovedSitePage,
+    style: Style,
+) -> io::Result<()> {
+    let mut positions = Positions::new(page.text.as_str());
+    let path = page_path(page, new, style);
+    for edit in &new.edits {
+        if let Change::New(text) = &edit.change
+            && let Some(place) = positions.of(edit.target)
+        {
+            print_changed_link(out, Below { root, path }, place, text.as_str())?;
+        }
+    }
+    Ok(())
+}
+
+// Prints a link that changes.
+fn print_changed_link<W: Write>(
+    out: &mut W,
+    page: Below<'_>,
+    (position, target): (Position, &str),
+    new: &str,
+) -> io::Result<()> {
+    let Position { line, column } = position;
+    let (target, new) = (Printable(target), Printable(new));
+    writeln!(out, "{page}:{line}:{column}: {target} becomes {new}")
 }
 
 // Prints a page that changes: its path, its path before the moves if that is another, and how many links change.
@@ -129,11 +211,13 @@ fn print_changed_page<W: Write>(
 }
 
 // Prints a link that no longer leads to its file, or may not.
-fn print_left_link<W: Write>(out: &mut W, root: &str, link: &LeftLink<'_>) -> io::Result<()> {
-    let page = Below {
-        root,
-        path: link.page,
-    };
+fn print_left_link<W: Write>(
+    out: &mut W,
+    root: &str,
+    path: &str,
+    link: &LeftLink<'_>,
+) -> io::Result<()> {
+    let page = Below { root, path };
     let Position { line, column } = link.position;
     let (root, target) = (Printable(root), Printable(link.target));
     let why = why_left(link.why);
@@ -191,8 +275,12 @@ fn why_unknown(why: WhyUnknown) -> &'static str {
 }
 
 // Prints a symbolic link that moves, or that leads to what moves.
-fn print_notice<W: Write>(out: &mut W, root: &str, notice: &SymlinkNotice) -> io::Result<()> {
-    let path = notice.path.as_relative_path().as_str();
+fn print_notice<W: Write>(
+    out: &mut W,
+    root: &str,
+    path: &str,
+    notice: &SymlinkNotice,
+) -> io::Result<()> {
     let link = Below { root, path };
     let why = why_noticed(notice);
     writeln!(out, "{link}: this symbolic link {why}, left as it is")
@@ -211,12 +299,10 @@ fn why_noticed(notice: &SymlinkNotice) -> &'static str {
 fn print_lost_symlink<W: Write>(
     out: &mut W,
     root: &str,
+    path: &str,
     symlink: &LostSymlink<'_>,
 ) -> io::Result<()> {
-    let path = Below {
-        root,
-        path: symlink.path,
-    };
+    let path = Below { root, path };
     let why = why_lost(symlink.loss);
     writeln!(out, "{path}: this symbolic link {why}, left as it is")
 }
@@ -229,36 +315,30 @@ fn why_lost(loss: Loss) -> &'static str {
     }
 }
 
-// The path of an entry of a tree.
-fn entry_at(tree: &Tree, number: usize) -> &str {
-    for (at, (path, _)) in tree.entries.iter().enumerate() {
-        if at == number {
-            return path.as_str();
-        }
-    }
-    ""
-}
-
 /// Prints what moves do, an object of JSON on each line: the links that change, the links that no longer lead to their file
 /// or may not, and symbolic links.
 pub fn print_moving_as_json<W: Write>(
     alloc: Global,
     out: &mut W,
     tree: &Tree,
-    moving: &Moving<'_>,
+    moving: &Moving<'_, '_>,
+    style: Style,
 ) -> io::Result<()> {
     for (page, new) in tree.pages.iter().zip(&moving.plan.pages) {
-        print_changed_links_as_json(alloc, out, page, new)?;
+        print_changed_links_as_json(alloc, out, page, new, style)?;
     }
     for link in &moving.left {
-        print_left_link_as_json(alloc, out, link)?;
+        let page = printed_path(alloc, moving, style, link.page)?;
+        print_left_link_as_json(alloc, out, page.as_str(), link)?;
     }
     for notice in &moving.plan.symlinks {
         let path = notice.path.as_relative_path().as_str();
-        print_symlink_as_json(alloc, out, path, why_noticed(notice))?;
+        let path = printed_path(alloc, moving, style, path)?;
+        print_symlink_as_json(alloc, out, path.as_str(), why_noticed(notice))?;
     }
     for symlink in &moving.lost {
-        print_symlink_as_json(alloc, out, symlink.path, why_lost(symlink.loss))?;
+        let path = printed_path(alloc, moving, style, symlink.path)?;
+        print_symlink_as_json(alloc, out, path.as_str(), why_lost(symlink.loss))?;
     }
     Ok(())
 }
@@ -269,13 +349,15 @@ fn print_changed_links_as_json<W: Write>(
     out: &mut W,
     page: &Page,
     new: &MovedSitePage,
+    style: Style,
 ) -> io::Result<()> {
     let mut positions = Positions::new(page.text.as_str());
+    let path = page_path(page, new, style);
     for edit in &new.edits {
         if let Change::New(text) = &edit.change
             && let Some(place) = positions.of(edit.target)
         {
-            print_changed_link_as_json(alloc, out, page.path.as_str(), place, text.as_str())?;
+            print_changed_link_as_json(alloc, out, path, place, text.as_str())?;
         }
     }
     Ok(())
@@ -306,9 +388,10 @@ fn print_changed_link_as_json<W: Write>(
 fn print_left_link_as_json<W: Write>(
     alloc: Global,
     out: &mut W,
+    page: &str,
     link: &LeftLink<'_>,
 ) -> io::Result<()> {
-    let (page, target, why) = (link.page, link.target, why_left(link.why));
+    let (target, why) = (link.target, why_left(link.why));
     let Position { line, column } = link.position;
     let (line, column) = (line as u64, column as u64);
     let object = json!(in alloc; {
@@ -340,6 +423,12 @@ pub fn print_would<W: Write>(out: &mut W, counts: Counts) -> io::Result<()> {
         number: counts.pages,
         word: "page",
     };
+    if counts.made {
+        return writeln!(
+            out,
+            "{pages} would change. Nothing is written: add --write."
+        );
+    }
     write!(out, "{pages} would change, ")?;
     print_moved(out, counts)?;
     writeln!(out, " would move. Nothing is written: add --write.")
@@ -351,6 +440,9 @@ pub fn print_did<W: Write>(out: &mut W, counts: Counts) -> io::Result<()> {
         number: counts.pages,
         word: "page",
     };
+    if counts.made {
+        return writeln!(out, "{pages} changed.");
+    }
     write!(out, "{pages} changed, ")?;
     print_moved(out, counts)?;
     writeln!(out, " moved.")
@@ -385,17 +477,49 @@ impl fmt::Display for DirectoryCount {
     }
 }
 
-/// Prints why moves are refused, with OLD and NEW as they were written.
-pub fn print_refused<W: Write>(
+/// Prints how many pages and links a check read.
+pub fn print_checked<W: Write>(out: &mut W, checked: &Checked) -> io::Result<()> {
+    let pages = Counted {
+        number: checked.pages,
+        word: "page",
+    };
+    let links = Counted {
+        number: checked.links,
+        word: "link",
+    };
+    let (dead, unknown) = (checked.dead.len(), checked.unknown);
+    writeln!(out, "{pages}, {links}: {dead} dead, {unknown} not known.")
+}
+
+/// Prints how many pages and links a check read, as an object of JSON on a line.
+pub fn print_checked_as_json<W: Write>(
+    alloc: Global,
+    out: &mut W,
+    checked: &Checked,
+) -> io::Result<()> {
+    let (pages, links) = (checked.pages as u64, checked.links as u64);
+    let (dead, unknown) = (checked.dead.len() as u64, checked.unknown as u64);
+    let object = json!(in alloc; {
+        "pages": pages,
+        "links": links,
+        "dead": dead,
+        "unknown": unknown
+    })?;
+    let text = object.to_string(alloc)?;
+    writeln!(out, "{text}")
+}
+
+/// Prints why moves are refused, with OLD as it was written, and the whole NEW.
+pub fn print_refused<W: Write, S: Store>(
     errors: &mut W,
-    root: &str,
+    store: &S,
     tree: &Tree,
     moves: &[(&str, &str)],
     why: &WhyRefused,
 ) -> io::Result<()> {
     match why {
-        WhyRefused::Fault(fault) => {
-            let root = Printable(root);
+        WhyRefused::RunFault(fault) => {
+            let root = Printable(store.root());
             writeln!(errors, "relmove: {root}: {fault}")
         }
         WhyRefused::NoDirectory(number) => print_move_refused(
@@ -410,13 +534,75 @@ pub fn print_refused<W: Write>(
             *number,
             "a path is in a directory whose name begins with a dot; such directories aren't read",
         ),
-        WhyRefused::OwnName(number) => print_move_refused(
+        WhyRefused::ReservedName(number) => print_move_refused(
             errors,
             moves,
             *number,
             "a name of the new path begins with .relmove in another case",
         ),
-        WhyRefused::Plan(refusal) => print_refusal(errors, root, tree, moves, *refusal),
+        WhyRefused::NotArrived(number) => {
+            print_not_there(errors, store, tree, moves, (*number, Side::New))
+        }
+        WhyRefused::NotLeft(number) => {
+            print_move_refused(errors, moves, *number, "something is at the old path")
+        }
+        WhyRefused::Plan(Refusal::NotThere(number)) => {
+            print_not_there(errors, store, tree, moves, (*number, Side::Old))
+        }
+        WhyRefused::Plan(refusal) => print_refusal(errors, store.root(), moves, refusal),
+    }
+}
+
+// A path of a move.
+#[derive(Clone, Copy)]
+enum Side {
+    // The old one.
+    Old,
+    // The new one.
+    New,
+}
+
+// Prints that nothing is at a path of a move, and, if the path begins with the root's, the path that was likely meant.
+fn print_not_there<W: Write, S: Store>(
+    errors: &mut W,
+    store: &S,
+    tree: &Tree,
+    moves: &[(&str, &str)],
+    (number, side): (usize, Side),
+) -> io::Result<()> {
+    let (old, new) = move_at(moves, number);
+    let (path, words) = match side {
+        Side::Old => (old, "nothing is at the old path"),
+        Side::New => (new, "nothing is at the new path"),
+    };
+    let Some(meant) = path_without_root(store.alloc(), tree, store.root(), path)? else {
+        return print_move_refused(errors, moves, number, words);
+    };
+    let (old, new) = (Printable(old), Printable(new));
+    let (root, meant) = (Printable(store.root()), Printable(meant.as_str()));
+    writeln!(
+        errors,
+        "relmove: {old} to {new}: {words}; paths begin at {root}: {meant}?"
+    )
+}
+
+// The part of a path after the root's path, if the path begins with it, and an entry is there.
+fn path_without_root(
+    alloc: Global,
+    tree: &Tree,
+    root: &str,
+    path: &str,
+) -> Result<Option<String>, AllocError> {
+    let root = RelativePath::new(root).normalize(alloc)?;
+    let path = RelativePath::new(path).normalize(alloc)?;
+    match path
+        .as_relative_path()
+        .strip_prefix(root.as_relative_path())
+    {
+        Ok(rest) if tree.entries.contains_key(rest.as_str()) => {
+            Ok(Some(String::from_str(alloc, rest.as_str())?))
+        }
+        _ => Ok(None),
     }
 }
 
@@ -424,23 +610,22 @@ pub fn print_refused<W: Write>(
 fn print_refusal<W: Write>(
     errors: &mut W,
     root: &str,
-    tree: &Tree,
     moves: &[(&str, &str)],
-    refusal: Refusal,
+    refusal: &Refusal,
 ) -> io::Result<()> {
     if let Some((number, words)) = words_of_move(refusal) {
         return print_move_refused(errors, moves, number, words);
     }
     match refusal {
         Refusal::SameOld(first, second) => {
-            print_both_refused(errors, moves, first, second, "the old paths are the same")
+            print_both_refused(errors, moves, *first, *second, "the old paths are the same")
         }
         Refusal::SameNew(first, second) => {
-            print_both_refused(errors, moves, first, second, "the new paths are the same")
+            print_both_refused(errors, moves, *first, *second, "the new paths are the same")
         }
         Refusal::Collision(first, second) => {
-            let first = Printable(entry_at(tree, first));
-            let second = Printable(entry_at(tree, second));
+            let first = Printable(first.as_relative_path().as_str());
+            let second = Printable(second.as_relative_path().as_str());
             writeln!(
                 errors,
                 "relmove: {first} and {second} would get the same path"
@@ -458,20 +643,20 @@ fn print_refusal<W: Write>(
 }
 
 // The move that is refused, and why, if the refusal is of a move alone.
-fn words_of_move(refusal: Refusal) -> Option<(usize, &'static str)> {
+fn words_of_move(refusal: &Refusal) -> Option<(usize, &'static str)> {
     match refusal {
-        Refusal::NoFileName(number) => Some((number, "a path is the root, or ends in ..")),
-        Refusal::LeavesRoot(number) => Some((number, "a path leads above the root")),
+        Refusal::NoFileName(number) => Some((*number, "a path is the root, or ends in ..")),
+        Refusal::LeavesRoot(number) => Some((*number, "a path leads above the root")),
         Refusal::IntoItself(number) => {
-            Some((number, "the new path is the old one, or below it"))
+            Some((*number, "the new path is the old one, or below it"))
         }
         Refusal::NotPlain(number) => Some((
-            number,
+            *number,
             "a name of the new path isn't plain on every platform; --any-name allows it",
         )),
-        Refusal::OwnName(number) => {
+        Refusal::ReservedName(number) => {
             Some((
-                number,
+                *number,
                 "a name of the old or the new path begins with .relmove",
             ))
         }
@@ -480,22 +665,21 @@ fn words_of_move(refusal: Refusal) -> Option<(usize, &'static str)> {
 }
 
 // The move that is refused, and why, if the refusal is of a move alone and of what is in the tree.
-fn words_in_tree(refusal: Refusal) -> Option<(usize, &'static str)> {
+fn words_in_tree(refusal: &Refusal) -> Option<(usize, &'static str)> {
     match refusal {
-        Refusal::NotThere(number) => Some((number, "nothing is at the old path")),
         Refusal::ForeignName(number) => {
             Some((
-                number,
+                *number,
                 "what moves holds a name that isn't UTF-8, or a directory that can't be read",
             ))
         }
-        Refusal::Taken(number) => Some((number, "something is at the new path")),
+        Refusal::Taken(number) => Some((*number, "something is at the new path")),
         Refusal::BelowFile(number) => Some((
-            number,
+            *number,
             "the new path is below a file or a symbolic link",
         )),
         Refusal::BelowUnread(number) => Some((
-            number,
+            *number,
             "after the moves the new path is in a directory that isn't read",
         )),
         _ => None,

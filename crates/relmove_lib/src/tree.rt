@@ -1,6 +1,9 @@
 //! Reads what is below the root: directories, files, links, and the texts of pages.
 use markdown_targets::link_targets;
-use relmove_run::{Call, Fault, Found, FoundKind, PageFile, STAGING, Store, at, join, name_of};
+use relative_path::RelativePath;
+use relmove_run::{
+    Found, FoundKind, PageFile, RunFault, STAGING, Store, SystemCall, at, join, name_of,
+};
 use std::alloc::{AllocError, Global};
 use std::collections::{BTreeMap, BTreeSet};
 use std::io::{self, ErrorKind};
@@ -41,10 +44,11 @@ pub struct Unread {
 /// What is below a root. All paths are from the root.
 #[derive(Debug, Drop)]
 pub struct Tree {
-    /// What is at each path. What is in a directory whose name begins with a dot, or where a symbolic link leads,
-    /// isn't listed.
+    /// What is at each path. What is in a directory whose name begins with a dot, but for `.github`, or where a symbolic link
+    /// leads, isn't listed.
     pub entries: BTreeMap<String, EntryKind>,
-    /// The pages: files whose names end in `.md` or `.markdown` and don't begin with a dot.
+    /// The pages: files whose names end in `.md` or `.markdown`, in any case, and don't begin with a dot. Those at and below
+    /// paths that were to be left out aren't among them.
     pub pages: Vec<Page>,
     /// Files with the name of a page that aren't UTF-8.
     pub not_text: Vec<String>,
@@ -61,11 +65,13 @@ pub struct Tree {
 }
 
 /// Reads what is below the root of a store. No symbolic link is followed, and only regular files are opened. What can't
-/// be read is left out, and named. So is a page that is longer than [`LONGEST_PAGE`].
+/// be read is left out, and named. So is a page that is longer than [`LONGEST_PAGE`]. A page at or below one of the excluded
+/// paths is left out without a word.
 ///
 /// Allocates a path for each file, and the texts of the pages.
-pub fn read_tree<S: Store>(store: &mut S) -> Result<Tree, Fault> {
+pub fn read_tree<S: Store>(store: &mut S, excluded: &[&str]) -> Result<Tree, RunFault> {
     let alloc = store.alloc();
+    let excluded = normal_paths(alloc, excluded)?;
     let mut walk = Walk::new(alloc);
     let mut waiting = Vec::new(alloc);
     waiting.push(String::new(alloc))?;
@@ -74,7 +80,31 @@ pub fn read_tree<S: Store>(store: &mut S) -> Result<Tree, Fault> {
         walk.add_directory(store, directory.as_str(), &mut waiting)?;
         directories.push(directory)?;
     }
-    walk.into_tree(store, directories)
+    walk.into_tree(store, directories, &excluded)
+}
+
+/// Paths in their normal form.
+pub(crate) fn normal_paths(alloc: Global, paths: &[&str]) -> Result<BTreeSet<String>, AllocError> {
+    let mut normal = BTreeSet::new(alloc);
+    for path in paths {
+        normal.insert(normal_text(alloc, path)?)?;
+    }
+    Ok(normal)
+}
+
+/// A path in its normal form.
+pub(crate) fn normal_text(alloc: Global, path: &str) -> Result<String, AllocError> {
+    Ok(RelativePath::new(path).normalize(alloc)?.into_string())
+}
+
+/// Whether a path is one of these, or below one. All are in their normal form; the root is the empty path.
+pub(crate) fn is_at_or_below(paths: &BTreeSet<String>, path: &str) -> bool {
+    paths.contains("")
+        || paths.contains(path)
+        || path.match_indices('/').any(|(slash, _)| match path.get(..slash) {
+            Some(above) => paths.contains(above),
+            None => false,
+        })
 }
 
 /// How many bytes a page may have that is read: 64 MiB.
@@ -109,13 +139,18 @@ impl Walk {
         store: &mut S,
         directory: &str,
         waiting: &mut Vec<String>,
-    ) -> Result<(), Fault> {
+    ) -> Result<(), RunFault> {
         let alloc = store.alloc();
         let names = match store.list(directory) {
             Err(error) if !directory.is_empty() && cannot_read(error.kind()) => {
                 return self.add_unlisted(alloc, directory, &error);
             }
-            listed => at(alloc, Call::List, shown(store.root(), directory), listed)?,
+            listed => at(
+                alloc,
+                SystemCall::List,
+                directory_or_root(store.root(), directory),
+                listed,
+            )?,
         };
         if names.has_other {
             self.add_unreadable_name(alloc, directory)?;
@@ -132,7 +167,7 @@ impl Walk {
         alloc: Global,
         directory: &str,
         error: &io::Error,
-    ) -> Result<(), Fault> {
+    ) -> Result<(), RunFault> {
         self.add_unread(alloc, directory, error)?;
         self.add_unreadable_name(alloc, directory)?;
         self.unlisted.push(String::from_str(alloc, directory)?)?;
@@ -140,14 +175,14 @@ impl Walk {
     }
 
     // Notes a directory in which a name can't be read.
-    fn add_unreadable_name(&mut self, alloc: Global, directory: &str) -> Result<(), Fault> {
+    fn add_unreadable_name(&mut self, alloc: Global, directory: &str) -> Result<(), RunFault> {
         self.unreadable_names
             .push(String::from_str(alloc, directory)?)?;
         Ok(())
     }
 
     // Notes what can't be read.
-    fn add_unread(&mut self, alloc: Global, path: &str, error: &io::Error) -> Result<(), Fault> {
+    fn add_unread(&mut self, alloc: Global, path: &str, error: &io::Error) -> Result<(), RunFault> {
         self.unread.push(Unread {
             path: String::from_str(alloc, path)?,
             why: error.to_string(alloc)?,
@@ -155,15 +190,15 @@ impl Walk {
         Ok(())
     }
 
-    // Adds a name in a directory. A directory whose name doesn't begin with a dot is one to list. What can't be asked
-    // for is named, and what is gone is left out.
+    // Adds a name in a directory. A directory whose name doesn't begin with a dot, or is `.github`, is one to list. What
+    // can't be asked for is named, and what is gone is left out.
     fn add_name<S: Store>(
         &mut self,
         store: &mut S,
         directory: &str,
         name: &str,
         waiting: &mut Vec<String>,
-    ) -> Result<(), Fault> {
+    ) -> Result<(), RunFault> {
         let alloc = store.alloc();
         let path = join(alloc, directory, name)?;
         let asked = match store.find(path.as_str()) {
@@ -172,12 +207,12 @@ impl Walk {
                 self.add_unread(alloc, path.as_str(), &error)?;
                 return self.add_unreadable_name(alloc, directory);
             }
-            asked => at(alloc, Call::Ask, path.as_str(), asked)?,
+            asked => at(alloc, SystemCall::Ask, path.as_str(), asked)?,
         };
         let Some(found) = asked else {
             return Ok(());
         };
-        if found.kind == FoundKind::Directory && !name.starts_with('.') {
+        if found.kind == FoundKind::Directory && !has_unread_name(name) {
             waiting.push(String::from_str(alloc, path.as_str())?)?;
         }
         self.add_entry(store, path, &found)
@@ -189,7 +224,7 @@ impl Walk {
         store: &mut S,
         path: String,
         found: &Found,
-    ) -> Result<(), Fault> {
+    ) -> Result<(), RunFault> {
         let alloc = store.alloc();
         let kind = kind_of(store, path.as_str(), found.kind)?;
         if kind == EntryKind::Symlink(None) {
@@ -207,7 +242,12 @@ impl Walk {
     }
 
     // Reads the pages, and returns the tree.
-    fn into_tree<S: Store>(self, store: &mut S, directories: Vec<String>) -> Result<Tree, Fault> {
+    fn into_tree<S: Store>(
+        self,
+        store: &mut S,
+        directories: Vec<String>,
+        excluded: &BTreeSet<String>,
+    ) -> Result<Tree, RunFault> {
         let Walk {
             entries,
             mut unreadable_names,
@@ -218,7 +258,7 @@ impl Walk {
         unreadable_names.sort()?;
         unreadable_names.dedup();
         unlisted.sort()?;
-        let mut reading = read_pages(store, &entries, &long_files)?;
+        let mut reading = read_pages(store, &entries, &long_files, excluded)?;
         unread.append(&mut reading.unread)?;
         Ok(Tree {
             entries,
@@ -242,7 +282,7 @@ pub(crate) fn cannot_read(kind: ErrorKind) -> bool {
 }
 
 // The path of a directory in a fault. The root has the path that it was given.
-fn shown<'a>(root: &'a str, directory: &'a str) -> &'a str {
+fn directory_or_root<'a>(root: &'a str, directory: &'a str) -> &'a str {
     if directory.is_empty() {
         root
     } else {
@@ -254,28 +294,29 @@ fn shown<'a>(root: &'a str, directory: &'a str) -> &'a str {
 const NO_TEXT: &str = "where this symbolic link leads isn't UTF-8";
 
 // What is at a path where this was found.
-fn kind_of<S: Store>(store: &mut S, path: &str, found: FoundKind) -> Result<EntryKind, Fault> {
+fn kind_of<S: Store>(store: &mut S, path: &str, found: FoundKind) -> Result<EntryKind, RunFault> {
     Ok(match found {
         FoundKind::Directory => EntryKind::Directory,
         FoundKind::File => EntryKind::File,
         FoundKind::Other => EntryKind::Other,
         FoundKind::Symlink => {
-            let read = store.read_link(path);
-            EntryKind::Symlink(at(store.alloc(), Call::ReadLink, path, read)?)
+            let read = store.read_symlink(path);
+            EntryKind::Symlink(at(store.alloc(), SystemCall::ReadSymlink, path, read)?)
         }
     })
 }
 
-// Reads the pages among the entries, but for those that are too long.
+// Reads the pages among the entries, but for those that are too long, and those at and below excluded paths.
 fn read_pages<S: Store>(
     store: &mut S,
     entries: &BTreeMap<String, EntryKind>,
     long_files: &BTreeSet<String>,
-) -> Result<Reading, Fault> {
+    excluded: &BTreeSet<String>,
+) -> Result<Reading, RunFault> {
     let alloc = store.alloc();
     let mut reading = Reading::new(alloc);
     for (path, kind) in entries {
-        if is_page(path.as_str()) {
+        if is_page(path.as_str()) && !is_at_or_below(excluded, path.as_str()) {
             match kind {
                 EntryKind::File if long_files.contains(path.as_str()) => {
                     reading.leave_out(alloc, path.as_str(), TOO_LONG)?
@@ -316,14 +357,14 @@ impl Reading {
     }
 
     // Reads the page at a path.
-    fn add<S: Store>(&mut self, store: &mut S, path: &str) -> Result<(), Fault> {
+    fn add<S: Store>(&mut self, store: &mut S, path: &str) -> Result<(), RunFault> {
         let alloc = store.alloc();
         let (file, bytes) = match store.read_page(path) {
             Err(error) if is_left_out(error.kind()) => {
                 let why = error.to_string(alloc)?;
                 return self.leave_out(alloc, path, why.as_str());
             }
-            read => at(alloc, Call::Read, path, read)?,
+            read => at(alloc, SystemCall::Read, path, read)?,
         };
         let path = String::from_str(alloc, path)?;
         let Ok(text) = String::from_utf8(bytes) else {
@@ -339,7 +380,7 @@ impl Reading {
     }
 
     // Notes that the page at a path isn't read.
-    fn leave_out(&mut self, alloc: Global, path: &str, why: &str) -> Result<(), Fault> {
+    fn leave_out(&mut self, alloc: Global, path: &str, why: &str) -> Result<(), RunFault> {
         self.unread.push(Unread {
             path: String::from_str(alloc, path)?,
             why: String::from_str(alloc, why)?,
@@ -367,14 +408,18 @@ pub(crate) fn is_directory_entry(tree: &Tree, path: &str) -> bool {
     matches!(tree.entries.get(path), Some(EntryKind::Directory))
 }
 
-// Whether the directory at a path is read: its name doesn't begin with a dot, and it can be listed.
+// Whether the directory at a path is read: its name doesn't begin with a dot, or is `.github`, and it can be listed.
 pub(crate) fn is_read_directory(tree: &Tree, path: &str) -> bool {
-    !has_dot_name(path) && !has_path(&tree.unlisted, path)
+    !has_unread_name(path) && !has_path(&tree.unlisted, path)
 }
 
-// Whether the name at the end of a path begins with a dot.
-pub(crate) fn has_dot_name(path: &str) -> bool {
-    name_of(path).starts_with('.')
+// The directory whose name begins with a dot, and that is read all the same.
+const READ: &str = ".github";
+
+// Whether the name at the end of a path is that of a directory that isn't read: it begins with a dot, and isn't `.github`.
+pub(crate) fn has_unread_name(path: &str) -> bool {
+    let name = name_of(path);
+    name.starts_with('.') && name != READ
 }
 
 // Whether a path is among sorted ones.
@@ -392,5 +437,17 @@ pub(crate) fn has_reserved_name(path: &str) -> bool {
 // Whether a file at a path is a page.
 fn is_page(path: &str) -> bool {
     let name = name_of(path);
-    !name.starts_with('.') && (name.ends_with(".md") || name.ends_with(".markdown"))
+    !name.starts_with('.') && (ends_in(name, ".md") || ends_in(name, ".markdown"))
+}
+
+// Whether a name ends in an extension, in any case.
+fn ends_in(name: &str, extension: &str) -> bool {
+    let end = name
+        .len()
+        .checked_sub(extension.len())
+        .and_then(|start| name.get(start..));
+    match end {
+        Some(end) => end.eq_ignore_ascii_case(extension),
+        None => false,
+    }
 }

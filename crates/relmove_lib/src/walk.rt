@@ -1,11 +1,11 @@
 //! Where a path leads, through symbolic links too.
 use crate::layout::Layout;
 use crate::seen::{Seen, find, seen_by_system};
-use relmove_run::{Fault, Store, directory_of, join};
+use relmove_run::{RunFault, Store, directory_of, join};
 use std::alloc::{AllocError, Global};
 
 // What a walk finds at a path outside the root.
-fn seen_outside<S: Store>(store: &mut S, path: &str) -> Result<Seen, Fault> {
+fn seen_outside<S: Store>(store: &mut S, path: &str) -> Result<Seen, RunFault> {
     if let (Some(found), Some(root)) = (find(store, path)?, find(store, "")?)
         && found.is_same(&root)
     {
@@ -23,7 +23,7 @@ fn is_outside(path: &str) -> bool {
 const MOST_ABOVE: usize = 4096;
 
 // The path from the root to the top of the system's tree: as many `..` as there are directories above the root.
-pub(crate) fn top_of<S: Store>(store: &mut S) -> Result<String, Fault> {
+pub(crate) fn top_of<S: Store>(store: &mut S) -> Result<String, RunFault> {
     let mut top = String::new(store.alloc());
     let mut below = find(store, "")?;
     for _ in 0..MOST_ABOVE {
@@ -92,7 +92,7 @@ impl Walk {
         store: &mut S,
         layout: &Layout<'_>,
         name: &str,
-    ) -> Result<bool, Fault> {
+    ) -> Result<bool, RunFault> {
         let alloc = store.alloc();
         if name == ".." {
             self.at = directory_above(alloc, self.at.as_str())?;
@@ -123,7 +123,7 @@ impl Walk {
     }
 
     // Goes on along the path in a symbolic link. Returns whether the system follows it.
-    fn follow<S: Store>(&mut self, store: &mut S, text: &str) -> Result<bool, Fault> {
+    fn follow<S: Store>(&mut self, store: &mut S, text: &str) -> Result<bool, RunFault> {
         self.symlinks = self.symlinks.saturating_add(1);
         if self.symlinks > MOST_SYMLINKS {
             return Ok(false);
@@ -141,7 +141,7 @@ pub(crate) fn end_of<S: Store>(
     store: &mut S,
     layout: &Layout<'_>,
     path: &str,
-) -> Result<Option<String>, Fault> {
+) -> Result<Option<String>, RunFault> {
     let mut walk = Walk::new(store.alloc(), path)?;
     for _ in 0..MOST_NAMES {
         let Some(name) = walk.left.pop() else {

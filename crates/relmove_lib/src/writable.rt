@@ -3,7 +3,7 @@ use crate::seen::{find, known};
 use crate::tree::{Tree, is_directory_entry};
 use crate::walk::top_of;
 use relmove_plan::Plan;
-use relmove_run::{Call, Fault, ROOT_USER, Store, directory_of, fault_of, join};
+use relmove_run::{ROOT_USER, RunFault, Store, SystemCall, directory_of, fault_of, join};
 use std::alloc::{AllocError, Global};
 use std::collections::{BTreeMap, BTreeSet};
 use std::io::{self, ErrorKind};
@@ -21,8 +21,8 @@ const MOVE: u32 = 0o200;
 pub(crate) fn need_writable<S: Store>(
     store: &mut S,
     tree: &Tree,
-    plan: &Plan,
-) -> Result<(), Fault> {
+    plan: &Plan<'_>,
+) -> Result<(), RunFault> {
     let directories = changed_directories(store.alloc(), plan)?;
     for directory in &directories {
         need_mode(store, directory.as_str(), CHANGE_NAMES)?;
@@ -31,8 +31,8 @@ pub(crate) fn need_writable<S: Store>(
 }
 
 // Fails if the run of a plan moves a directory that is the caller's, and the mode doesn't let its owner do so.
-fn need_movable<S: Store>(store: &mut S, tree: &Tree, plan: &Plan) -> Result<(), Fault> {
-    for rename in &plan.steps.apart {
+fn need_movable<S: Store>(store: &mut S, tree: &Tree, plan: &Plan<'_>) -> Result<(), RunFault> {
+    for rename in &plan.actions.staged {
         let from = rename.from.as_str();
         if is_directory_entry(tree, from) {
             need_mode(store, from, MOVE)?;
@@ -42,7 +42,7 @@ fn need_movable<S: Store>(store: &mut S, tree: &Tree, plan: &Plan) -> Result<(),
 }
 
 // Fails if what is at a path belongs to the caller, and its owner hasn't these permissions.
-fn need_mode<S: Store>(store: &mut S, path: &str, needed: u32) -> Result<(), Fault> {
+fn need_mode<S: Store>(store: &mut S, path: &str, needed: u32) -> Result<(), RunFault> {
     let Some(found) = find(store, path)? else {
         return Ok(());
     };
@@ -53,11 +53,11 @@ fn need_mode<S: Store>(store: &mut S, path: &str, needed: u32) -> Result<(), Fau
         return Ok(());
     }
     let error = io::Error::from(ErrorKind::PermissionDenied);
-    Err(fault_of(store.alloc(), Call::Write, path, &error))
+    Err(fault_of(store.alloc(), SystemCall::Write, path, &error))
 }
 
 // Whether this process acts for a user. The system says so of the process itself.
-fn is_caller<S: Store>(store: &mut S, user: u32) -> Result<bool, Fault> {
+fn is_caller<S: Store>(store: &mut S, user: u32) -> Result<bool, RunFault> {
     let top = top_of(store)?;
     let path = join(store.alloc(), top.as_str(), "proc/self")?;
     let found = store.follow(path.as_str());
@@ -68,59 +68,62 @@ fn is_caller<S: Store>(store: &mut S, user: u32) -> Result<bool, Fault> {
 }
 
 // The directories in which the run of a plan changes names, by their paths before it. The root is the empty path.
-fn changed_directories(alloc: Global, plan: &Plan) -> Result<BTreeSet<String>, AllocError> {
+fn changed_directories(alloc: Global, plan: &Plan<'_>) -> Result<BTreeSet<String>, AllocError> {
     let mut directories = left_directories(alloc, plan)?;
     // The run's own directory and its journal.
     directories.insert(String::new(alloc))?;
     let made = made_directories(alloc, plan)?;
     let names = names_by_new_path(alloc, plan)?;
     let old_paths = old_paths_by_name(alloc, plan)?;
-    for rename in &plan.steps.together {
-        let between = path_before(alloc, &names, directory_of(rename.to.as_str()))?;
-        let nearest = nearest_unmade(&made, between.as_str());
+    for rename in &plan.actions.placed {
+        let staging = path_before(alloc, &names, directory_of(rename.to.as_str()))?;
+        let nearest = nearest_unmade(&made, staging.as_str());
         directories.insert(path_before(alloc, &old_paths, nearest)?)?;
     }
     Ok(directories)
 }
 
 // The directories that something leaves in the run of a plan.
-fn left_directories(alloc: Global, plan: &Plan) -> Result<BTreeSet<String>, AllocError> {
+fn left_directories(alloc: Global, plan: &Plan<'_>) -> Result<BTreeSet<String>, AllocError> {
     let mut directories = BTreeSet::new(alloc);
-    for rename in &plan.steps.apart {
+    for rename in &plan.actions.staged {
         let directory = directory_of(rename.from.as_str());
         directories.insert(String::from_str(alloc, directory)?)?;
     }
     Ok(directories)
 }
 
-// The directories that the run of a plan makes. One in a directory that moves is below that one's name in between.
-fn made_directories<'a>(alloc: Global, plan: &'a Plan) -> Result<BTreeSet<&'a str>, AllocError> {
+// The directories that the run of a plan makes. One in a directory that moves is below that one's staging name.
+fn made_directories<'a>(
+    alloc: Global,
+    plan: &'a Plan<'_>,
+) -> Result<BTreeSet<&'a str>, AllocError> {
     let mut made = BTreeSet::new(alloc);
-    for path in &plan.steps.made {
+    for path in &plan.actions.made {
         made.insert(path.as_str())?;
     }
     Ok(made)
 }
 
-// The names in between from which something comes, by the new paths.
+// The staging names from which something comes, by the new paths.
 fn names_by_new_path<'a>(
     alloc: Global,
-    plan: &'a Plan,
+    plan: &'a Plan<'_>,
 ) -> Result<BTreeMap<&'a str, &'a str>, AllocError> {
     let mut names = BTreeMap::new(alloc);
-    for rename in &plan.steps.together {
+    for rename in &plan.actions.placed {
         names.insert(rename.to.as_str(), rename.from.as_str())?;
     }
     Ok(names)
 }
 
-// The old paths of what leaves, by the names in between.
+// The old paths of what leaves, by the staging names.
 fn old_paths_by_name<'a>(
     alloc: Global,
-    plan: &'a Plan,
+    plan: &'a Plan<'_>,
 ) -> Result<BTreeMap<&'a str, &'a str>, AllocError> {
     let mut old_paths = BTreeMap::new(alloc);
-    for rename in &plan.steps.apart {
+    for rename in &plan.actions.staged {
         old_paths.insert(rename.to.as_str(), rename.from.as_str())?;
     }
     Ok(old_paths)

@@ -43,7 +43,7 @@ fn call<O: Write>(rt: &HostRuntime, words: &[&str], out: &mut O) -> io::Result<(
         writeln!(out, "== relmove {word}")?;
     }
     let mut errors = Vec::new(rt.alloc());
-    let status = answer(rt, words, out, &mut errors).code();
+    let status = answer(rt, words, &mut rt.stdin(), out, &mut errors).code();
     out.write_all(&errors)?;
     writeln!(out, "== status {status}")
 }

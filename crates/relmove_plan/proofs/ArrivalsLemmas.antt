@@ -2,11 +2,10 @@
 use Rattle.std.proofs.Common.{All, Bool, false, true≢false, ◌≡◌, ◌≢◌, ℕ, ◌<◌, ◌≤◌, List, [], ◌∷◌, ◌++◌, Contains, Option, Some, None, IsSome, length, map, take, get_or, inl, inr, refl, sym, ap, subst, ◌∙◌, arith}
 use Rattle.std.proofs.lemmas.Bool.{or_parts}
 use Rattle.std.specs.Option.{option_and_then}
-use Rattle.std.specs.List.{Any, AllZip, list_any}
+use Rattle.std.specs.List.{Any, list_any}
 use Rattle.std.proofs.lemmas.List.{get_or_default, length-append}
-use Rattle.std.proofs.lemmas.List.Elements.{All-cons, All-nil, All-push, All-take}
+use Rattle.std.proofs.lemmas.List.Elements.{All-nil, All-push, All-take}
 use Rattle.relative_path.specs.Steps.{Step, cur, up, name}
-use Rattle.relative_path.specs.RelativePath.{path_components}
 use Rattle.relative_path.specs.Walk.{place_of, walk}
 use Rattle.relative_path.specs.Normalizing.{IsNormalTextOf}
 use Rattle.relative_path.specs.Editing.{kept}
@@ -14,52 +13,42 @@ use Rattle.relative_path.specs.Naming.{last_name}
 use Rattle.relative_path.proofs.ForCallers.{IsSame-last_name, IsSame-place, IsSame-trans, walk-append, walk-append_some, walk-names}
 use Rattle.relative_path_moves.specs.Moves.{Move, move_at}
 use Rattle.relative_path_places.specs.PlaceIndex.{IsNoneAt, path_at}
-use Rattle.relative_path_moves.specs.TreeMoves.{AtTreePath, IsLeftInPlace, IsTakenTo, IsTreeTarget, TakesAlong}
-use Rattle.relative_path_links.specs.declared.site.MovedSitePage.{MovedSitePage}
-use Rattle.relative_path_links.specs.declared.site.SitePage.{SitePage}
+use Rattle.relative_path_moves.specs.TreeMoves.{IsLeftInPlace, IsTakenTo, IsTreePath, TakesAlong}
 use Rattle.relmove_checks.specs.declared.entry.Entry.{Entry}
 use Rattle.relmove_checks.specs.declared.name_rule.NameRule.{NameRule}
-use Rattle.relmove_checks.specs.Moves.{is_own_step}
-use Rattle.relmove_checks.specs.Trees.{IsAfter, is_directory}
-use Rattle.relmove_plan.specs.Runs.{names_of, carried, renames_of, ComesTo, EntriesArrive, TextArrives}
-use Rattle.relmove_steps.specs.Steps.{StepTexts, ReplacesPage}
+use Rattle.relmove_checks.specs.Moves.{is_reserved_step}
+use Rattle.relmove_plan.specs.FileTrees.{IsUnder, names_of}
+use Rattle.relmove_plan.proofs.RunWords.{carried, renames_of, ComesTo}
+use Rattle.relmove_steps.specs.Actions.{ActionTexts}
 use Rattle.relmove_plan.specs.WholeTrees.{IsAt, LeadsToFile}
-use Rattle.relmove_plan.proofs.CarriedLemmas.{HasNoName, is_own, leaving}
+use Rattle.relmove_plan.proofs.CarriedLemmas.{HasNoName, is_reserved_text, leaving}
 use Rattle.relmove_plan.proofs.CarriedLemmas as carrying
 use Rattle.relmove_plan.proofs.KnownRunsLemmas.{IsKnownRun}
 use Rattle.relmove_plan.proofs.PlacesLemmas.{names_of-normal}
-use Rattle.relmove_plan.proofs.RunsLemmas.{IsUnder}
 use Rattle.relmove_plan.proofs.SourcesLemmas.{IsFrom-under, IsUnder-first, element}
 use Rattle.relmove_plan.proofs.WholeTreesLemmas.{IsAt-some, IsNoneAt-under, IsSame-one_place, LeadsToFile-under, not_empty, some_append, some_of}
-
--- each element has one that is zipped with it
-All-zip : {X Y : Type 0} (R : X → Y → Type 0) (xs : List X) (ys : List Y) → AllZip R xs ys → All (λ x. (y : Y) × R x y) xs
-All-zip {X} {Y} R [] [] each = All-nil (λ (x : X). (y : Y) × R x y)
-All-zip R [] (y ∷ ys) each = absurd each
-All-zip R (x ∷ xs) [] each = absurd each
-All-zip {X} {Y} R (x ∷ xs) (y ∷ ys) each =
-    All-cons (λ (x : X). (y : Y) × R x y) x xs (y, each.0) (All-zip R xs ys each.1)
 
 -- ---- names of a run's own
 
 -- none of the names of a place is one of a run's own
-abbrev pub NotOwn : List (List ℕ) → Type 0
-NotOwn place = All (λ n. is_own n ≡ false) place
+abbrev pub NotReserved : List (List ℕ) → Type 0
+NotReserved place = All (λ n. is_reserved_text n ≡ false) place
 
 -- names that aren't a run's own lead to none that is
-walk-own : (cs : List Step) (base place : List (List ℕ)) → list_any is_own_step cs ≡ false → NotOwn base
-    → walk base cs ≡ Some place → NotOwn place
-walk-own [] base place none fine leads = subst NotOwn (some_of leads) fine
-walk-own (cur ∷ cs) base place none fine leads = walk-own cs base place none fine leads
-walk-own (up ∷ cs) [] place none fine leads = absurd (let e = leads in cc)
-walk-own (up ∷ cs) (n ∷ base) place none fine leads =
-    walk-own cs (take (length base) (n ∷ base)) place none (All-take (λ n. is_own n ≡ false) (length base) (n ∷ base) fine) leads
-walk-own (name n ∷ cs) base place none fine leads =
-    let parts = or_parts (is_own n) (list_any is_own_step cs) none in
-    walk-own cs (base ++ n ∷ []) place parts.1 (All-push (λ n. is_own n ≡ false) base n fine parts.0) leads
+walk-reserved : (cs : List Step) (base place : List (List ℕ)) → list_any is_reserved_step cs ≡ false → NotReserved base
+    → walk base cs ≡ Some place → NotReserved place
+walk-reserved [] base place none fine leads = subst NotReserved (some_of leads) fine
+walk-reserved (cur ∷ cs) base place none fine leads = walk-reserved cs base place none fine leads
+walk-reserved (up ∷ cs) [] place none fine leads = absurd (let e = leads in cc)
+walk-reserved (up ∷ cs) (n ∷ base) place none fine leads =
+    walk-reserved cs (take (length base) (n ∷ base)) place none
+    (All-take (λ n. is_reserved_text n ≡ false) (length base) (n ∷ base) fine) leads
+walk-reserved (name n ∷ cs) base place none fine leads =
+    let parts = or_parts (is_reserved_text n) (list_any is_reserved_step cs) none in
+    walk-reserved cs (base ++ n ∷ []) place parts.1 (All-push (λ n. is_reserved_text n ≡ false) base n fine parts.0) leads
 
-module _ {entries : List Entry} {pages changed : List (List Step)} {moves : List Move} {rule : NameRule} {steps : StepTexts}
-    (run : IsKnownRun entries pages changed moves rule steps)
+module _ {entries : List Entry} {pages changed : List (List Step)} {moves : List Move} {rule : NameRule} {actions : ActionTexts}
+    (run : IsKnownRun entries pages changed moves rule actions)
   where
     -- ---- new paths
 
@@ -69,14 +58,14 @@ module _ {entries : List Entry} {pages changed : List (List Step)} {moves : List
 
     -- the place of the new path of a move: none of its names is a run's own
     pub new_place : (j : ℕ) → j < length moves
-        → (place : List (List ℕ)) × (place_of (move_at moves j).new ≡ Some place) × (place ≢ []) × NotOwn place
+        → (place : List (List ℕ)) × (place_of (move_at moves j).new ≡ Some place) × (place ≢ []) × NotReserved place
     new_place j within =
         let is = run.accepted.apart.come.leave.paths j within in
         let (place, leads) = value (place_of (move_at moves j).new) is.placed.new in (
           place,
           leads,
           named (move_at moves j).new place (λ none. is.placed.named (inr none)) leads,
-          walk-own (move_at moves j).new [] place is.not_own_new (All-nil (λ n. is_own n ≡ false)) leads,
+          walk-reserved (move_at moves j).new [] place is.not_reserved_new (All-nil (λ n. is_reserved_text n ≡ false)) leads,
         )
       where
         named : (cs : List Step) (place : List (List ℕ)) → last_name cs ≢ None → place_of cs ≡ Some place → place ≢ []
@@ -91,11 +80,11 @@ module _ {entries : List Entry} {pages changed : List (List Step)} {moves : List
                 let split : top ++ n ∷ [] ≡ place = some_of (sym (walk-names top (n ∷ [])) ∙ down) in
                 λ none. not_empty top n [] (split ∙ none)
 
-    pub HasNoName-own : (place below : List (List ℕ)) → place ≢ [] → NotOwn place → HasNoName entries (place ++ below)
-    HasNoName-own [] below some fine = absurd (some refl)
-    HasNoName-own (n ∷ place) below some fine = λ s own_2 unused under.
+    pub HasNoName-reserved : (place below : List (List ℕ)) → place ≢ [] → NotReserved place → HasNoName entries (place ++ below)
+    HasNoName-reserved [] below some fine = absurd (some refl)
+    HasNoName-reserved (n ∷ place) below some fine = λ s own_2 unused under.
         let same : n ≡ s = IsUnder-first n s (place ++ below) [] under in
-        true≢false (sym own_2 ∙ ap is_own (sym same) ∙ fine 0 n (omega arith))
+        true≢false (sym own_2 ∙ ap is_reserved_text (sym same) ∙ fine 0 n (omega arith))
 
     pub HasNoName-entry : (b : Bool) (place : List (List ℕ)) → Any (IsAt b place) entries → HasNoName entries place
     HasNoName-entry b place at s own_2 unused =
@@ -119,13 +108,13 @@ module _ {entries : List Entry} {pages changed : List (List Step)} {moves : List
         unchanged_place = λ k within same. unchanged k within (IsSame-trans (IsSame-place leads) same)
 
         -- what leaves from there or from above is moved
-        leaves-under : (j : ℕ) (d : List ℕ × List ℕ) → j < length steps.apart → (below : List (List ℕ))
-            → place ≡ names_of (get_or steps.apart j d).0 ++ below → (k : ℕ) × TakesAlong moves place k below
+        leaves-under : (j : ℕ) (d : List ℕ × List ℕ) → j < length actions.staged → (below : List (List ℕ))
+            → place ≡ names_of (get_or actions.staged j d).0 ++ below → (k : ℕ) × TakesAlong moves place k below
         leaves-under j d l below under =
-            let (step, is) = element steps.apart j l in
+            let (step, is) = element actions.staged j l in
             let src = carrying.source run j step l is in
-            let same : get_or steps.apart j d ≡ step = get_or_default steps.apart j d step l ∙ is in
-            IsFrom-under entries pages run.whole moves changed run.files run.accepted.apart.come.leave.olds steps run.own b place
+            let same : get_or actions.staged j d ≡ step = get_or_default actions.staged j d step l ∙ is in
+            IsFrom-under entries pages run.whole moves changed run.files run.accepted.apart.come.leave.olds actions run.own b place
             src.place below src.is_from at unchanged_place
             (under ∙ ap (λ top. top ++ below) (ap (λ (step : List ℕ × List ℕ). names_of step.0) same ∙ src.named)) src.some
 
@@ -140,7 +129,7 @@ module _ {entries : List Entry} {pages changed : List (List Step)} {moves : List
         -- and nothing leaves from nearer
         nearest-leaves : (target : List Step) (taken : IsTakenTo moves cs target) (from : List ℕ)
             → IsNormalTextOf (move_at moves taken.move).old from
-            → All (λ step. IsUnder place (names_of step.0) → length (names_of step.0) ≤ length (names_of from)) steps.apart
+            → All (λ step. IsUnder place (names_of step.0) → length (names_of step.0) ≤ length (names_of from)) actions.staged
         nearest-leaves target taken from is = λ i d l under.
             let (rest, down) = under in
             let (k, takes) = leaves-under i d l rest down in
@@ -148,29 +137,29 @@ module _ {entries : List Entry} {pages changed : List (List Step)} {moves : List
             let more : length taken.below ≤ length rest =
             taken.nearest.nearest k rest (subst (λ place. TakesAlong moves place k rest) (sym place_is) takes) in
             let long = ap length (sym down ∙ taken-down target taken from is) in
-            let long_2 = length-append (names_of (get_or steps.apart i d).0) rest in
+            let long_2 = length-append (names_of (get_or actions.staged i d).0) rest in
             let long_3 = length-append (names_of from) taken.below in
             omega (arith, more, long, long_2, long_3)
 
         -- so it leaves to the name to which this old path leaves
-        pub carried-taken : (target : List Step) (taken : IsTakenTo moves cs target) (from between : List ℕ)
-            → IsNormalTextOf (move_at moves taken.move).old from → Contains steps.apart (from, between)
-            → carried (leaving steps) place ≡ between ∷ taken.below
-        carried-taken target taken from between is has =
-            carrying.carried-leaves run from between place taken.below has (taken-down target taken from is)
+        pub carried-taken : (target : List Step) (taken : IsTakenTo moves cs target) (from staging : List ℕ)
+            → IsNormalTextOf (move_at moves taken.move).old from → Contains actions.staged (from, staging)
+            → carried (leaving actions) place ≡ staging ∷ taken.below
+        carried-taken target taken from staging is has =
+            carrying.carried-leaves run from staging place taken.below has (taken-down target taken from is)
             (nearest-leaves target taken from is)
 
         -- nothing leaves from there or from above, if no move takes it along
-        left-under : IsLeftInPlace moves cs → All (λ step. ¬ IsUnder place (names_of step.0)) steps.apart
+        left-under : IsLeftInPlace moves cs → All (λ step. ¬ IsUnder place (names_of step.0)) actions.staged
         left-under left = λ j d l under.
             let (below, is) = under in
             let (k, takes) = leaves-under j d l below is in
             left place k below leads takes
 
-        pub carried-left_in_place : IsLeftInPlace moves cs → carried (leaving steps) place ≡ place
+        pub carried-left_in_place : IsLeftInPlace moves cs → carried (leaving actions) place ≡ place
         carried-left_in_place left = carrying.carried-left_alone run place (left-under left)
 
-        ComesTo-taken : (target : List Step) → IsTakenTo moves cs target → ComesTo (renames_of steps) cs target
+        ComesTo-taken : (target : List Step) → IsTakenTo moves cs target → ComesTo (renames_of actions) cs target
         ComesTo-taken target taken =
             let j = taken.move in
             let takes = taken.nearest.takes in
@@ -187,7 +176,7 @@ module _ {entries : List Entry} {pages changed : List (List Step)} {moves : List
               arrives = ap place_of taken.new ∙ place-below (move_at moves j).new new below leads_new;
               carries = carrying.carried-carries run carries.old carries.new place below new carries.carries
                   (taken-down target taken carries.old carries.old_of) (nearest-leaves target taken carries.old carries.old_of)
-                  to_is (HasNoName-own new below some fine_new);
+                  to_is (HasNoName-reserved new below some fine_new);
             }
           where
             unchanged_old : (j : ℕ) → place_of (move_at moves j).old ≡ Some taken.nearest.takes.top
@@ -201,7 +190,7 @@ module _ {entries : List Entry} {pages changed : List (List Step)} {moves : List
                 (taken.below, here ∙ ap (λ top. top ++ taken.below) top_is) in
                 unchanged k within (IsSame-one_place place leads (file.leads ∙ ap Some (sym place_is)))
 
-        pub ComesTo-target : (target : List Step) → IsTreeTarget moves cs target → ComesTo (renames_of steps) cs target
+        pub ComesTo-target : (target : List Step) → IsTreePath moves cs target → ComesTo (renames_of actions) cs target
         ComesTo-target target (inl taken) = ComesTo-taken target taken
         ComesTo-target target (inr (left, same)) = record {
           from = place;
@@ -211,25 +200,10 @@ module _ {entries : List Entry} {pages changed : List (List Step)} {moves : List
           carries = carrying.carried-stays run place (left-under left) (HasNoName-entry b place at);
         }
 
-    -- each entry comes to where the moves take it
-    pub EntriesArrive-steps : EntriesArrive moves entries changed steps
-    EntriesArrive-steps k d within unchanged =
-        let held = run.whole.held k d within in
-        let entry = get_or entries k d in
-        let (text, there) = All-zip (IsAfter moves) entries run.accepted.apart.after run.accepted.apart.are_after k d within in
-        let (target, is, normal) = there in (
-          target,
-          is,
-          ComesTo-target (is_directory entry.kind) (path_components entry.path) (held.directory ++ held.name ∷ [])
-              held.leads
-              (k, entry, within, get_or_default entries k entry d within, record { kind = refl; leads = held.leads })
-              unchanged target is,
-        )
-
     -- ---- new texts
 
-    -- the place to which the moves take a file: no name in between is there
-    pub target_place : (cs target : List Step) → LeadsToFile entries cs → IsTreeTarget moves cs target
+    -- the place to which the moves take a file: no staging name is there
+    pub target_place : (cs target : List Step) → LeadsToFile entries cs → IsTreePath moves cs target
         → (place : List (List ℕ)) × (place_of target ≡ Some place) × (place ≢ []) × HasNoName entries place
     target_place cs target file (inl taken) =
         let j = taken.move in
@@ -237,7 +211,7 @@ module _ {entries : List Entry} {pages changed : List (List Step)} {moves : List
           top ++ taken.below,
           ap place_of taken.new ∙ place-below (move_at moves j).new top taken.below leads,
           some_append top taken.below some,
-          HasNoName-own top taken.below some fine_top,
+          HasNoName-reserved top taken.below some fine_top,
         )
     target_place cs target file (inr (left, same)) = (
       file.place,
@@ -245,37 +219,3 @@ module _ {entries : List Entry} {pages changed : List (List Step)} {moves : List
       IsAt-some entries pages run.whole false file.place file.file,
       HasNoName-entry false file.place file.file,
     )
-
-    TextArrives-target : (page : SitePage) (new : MovedSitePage) (text : List ℕ) (target : List Step)
-        → LeadsToFile entries (path_components page.path) → IsTreeTarget moves (path_components page.path) target
-        → IsNormalTextOf target new.path → ReplacesPage steps page new text → TextArrives moves steps page text
-    TextArrives-target page new text target file is normal replaces =
-        let (i, within, here) = replaces.carries.leaves in
-        let src = carrying.source run i (replaces.file, replaces.carries.between) within here in
-        let (place, leads, some, ends) = target_place (path_components page.path) target file is in
-        record {
-          old = replaces.old;
-          file = replaces.file;
-          old_of = replaces.old_of;
-          written = replaces.written;
-          arrives = (
-            target,
-            is,
-            record {
-              from = src.place;
-              to = place;
-              leaves = src.leads;
-              arrives = leads;
-              carries = ap (carried (renames_of steps)) (sym src.named)
-                  ∙ carrying.carried-from run replaces.file new.path place replaces.carries
-                  (names_of-normal target new.path place normal leads) ends;
-            },
-          );
-        }
-
-    pub TextArrives-page : (page : SitePage) (new : MovedSitePage) (text : List ℕ)
-        → LeadsToFile entries (path_components page.path)
-        → AtTreePath moves (path_components page.path) (λ now. IsNormalTextOf now new.path)
-        → ReplacesPage steps page new text → TextArrives moves steps page text
-    TextArrives-page page new text file (target, is, normal) replaces =
-        TextArrives-target page new text target file is normal replaces

@@ -1,4 +1,4 @@
--- The renames from names in between: none of those names is where such a rename leads to, or above it.
+-- The renames from staging names: none of those names is where such a rename leads to, or above it.
 use Rattle.std.proofs.Common.{Bool, ◌≡◌, ◌≢◌, ◌⊎◌, ℕ, ◌<◌, ◌+◌, List, [], Contains, Some, length, map, get_or, inl, inr, refl, sym, ap, subst, ◌∙◌, append-nil, arith}
 use Rattle.std.specs.List.{Any, AllPairs, join_with_byte}
 use Rattle.std.proofs.lemmas.Bool.{cases_order}
@@ -9,11 +9,11 @@ use Rattle.relative_path.specs.Normalizing.{IsNormalTextOf}
 use Rattle.relative_path.proofs.ForCallers.{IsSame-place, IsSame-sym, IsSame-trans}
 use Rattle.relative_path_moves.specs.Moves.{Move, move_at}
 use Rattle.relative_path_places.specs.PlaceIndex.{IsNoneAt, path_at}
-use Rattle.relative_path_moves.specs.TreeMoves.{AtTreePath, IsTreeTarget}
+use Rattle.relative_path_moves.specs.TreeMoves.{AtTreePath, IsTreePath}
 use Rattle.relmove_checks.specs.declared.entry.Entry.{Entry}
 use Rattle.relmove_checks.specs.declared.name_rule.NameRule.{NameRule}
-use Rattle.relmove_plan.specs.Runs.{names_of}
-use Rattle.relmove_steps.specs.Steps.{StepTexts, Carries, LeavesFrom, of_move, of_page, of_text, names_come}
+use Rattle.relmove_plan.specs.FileTrees.{names_of}
+use Rattle.relmove_steps.specs.Actions.{ActionTexts, Carries, LeavesFrom, of_move, of_page, of_text, names_come}
 use Rattle.relmove_plan.specs.WholeTrees.{IsAt}
 use Rattle.relmove_plan.proofs.CarriedLemmas.{HasNoName}
 use Rattle.relmove_plan.proofs.CarriedLemmas as carrying
@@ -36,7 +36,7 @@ one_by_key key xs differ x y (i, within, is) (j, within_2, is_2) same = elim (ca
       absurd (differ j i y more within (ap key is_2 ∙ sym same ∙ ap key (sym is ∙ get_or_default xs i x y within)))
 ]
 
--- the new path of a move, or the path of a page that changes after the moves: no name in between is there
+-- the new path of a move, or the path of a page that changes after the moves: no staging name is there
 pub record IsDestination (entries : List Entry) (moves : List Move) (changed : List (List Step)) (to : List ℕ) : Type 0 where
   pub place : List (List ℕ)
   pub some : place ≢ []
@@ -44,56 +44,56 @@ pub record IsDestination (entries : List Entry) (moves : List Move) (changed : L
   pub spelled : to ≡ join_with_byte slash place
   pub ends : HasNoName entries place
   pub why : ((k : ℕ) × (k < length moves) × (place_of (move_at moves k).new ≡ Some place))
-      ⊎ ((c : ℕ) × (c < length changed) × (target : List Step) × IsTreeTarget moves (path_at changed c) target
+      ⊎ ((c : ℕ) × (c < length changed) × (target : List Step) × IsTreePath moves (path_at changed c) target
       × (place_of target ≡ Some place))
 
-module _ {entries : List Entry} {pages changed : List (List Step)} {moves : List Move} {rule : NameRule} {steps : StepTexts}
-    (run : IsKnownRun entries pages changed moves rule steps)
+module _ {entries : List Entry} {pages changed : List (List Step)} {moves : List Move} {rule : NameRule} {actions : ActionTexts}
+    (run : IsKnownRun entries pages changed moves rule actions)
   where
-    -- ---- the renames from names in between
+    -- ---- the renames from staging names
 
     -- from a name something comes once
-    come_once : AllPairs (λ one other. one.0 ≢ other.0) steps.together
+    come_once : AllPairs (λ one other. one.0 ≢ other.0) actions.placed
     come_once i j d less within same =
-        let within_2 : i < length steps.together = omega (arith, less, within) in
-        let (step, is) = element steps.together i within_2 in
-        let (other, is_2) = element steps.together j within in
+        let within_2 : i < length actions.placed = omega (arith, less, within) in
+        let (step, is) = element actions.placed i within_2 in
+        let (other, is_2) = element actions.placed j within in
         carrying.name_other run i j step other (λ equal. absurd (omega (arith, equal, less))) within_2 within is is_2
-        (ap (λ (step : List ℕ × List ℕ). step.0) (sym is ∙ get_or_default steps.together i step d within_2) ∙ same
-        ∙ ap (λ (step : List ℕ × List ℕ). step.0) (get_or_default steps.together j d other within ∙ is_2))
+        (ap (λ (step : List ℕ × List ℕ). step.0) (sym is ∙ get_or_default actions.placed i step d within_2) ∙ same
+        ∙ ap (λ (step : List ℕ × List ℕ). step.0) (get_or_default actions.placed j d other within ∙ is_2))
 
     -- what is removed doesn't come
-    pub come_kept : (between to : List ℕ) → Contains steps.together (between, to) → ¬ Contains steps.removed between
-    come_kept between to (k, within, is) (r, within_2, is_2) =
-        let count : length (names_come steps) ≡ length steps.together =
-        length-map steps.together (λ (step : List ℕ × List ℕ). step.0) in
-        let long = length-append (names_come steps) steps.removed in
-        (carrying.free_come run).different k (length (names_come steps) + r) between (omega (arith, within, count))
+    pub come_kept : (staging to : List ℕ) → Contains actions.placed (staging, to) → ¬ Contains actions.removed staging
+    come_kept staging to (k, within, is) (r, within_2, is_2) =
+        let count : length (names_come actions) ≡ length actions.placed =
+        length-map actions.placed (λ (step : List ℕ × List ℕ). step.0) in
+        let long = length-append (names_come actions) actions.removed in
+        (carrying.free_come run).different k (length (names_come actions) + r) staging (omega (arith, within, count))
         (omega (arith, within_2, long))
-        (carrying.come_at run k (between, to) between within is ∙ sym is_2
-        ∙ sym (get_or-append-add (names_come steps) steps.removed r between))
+        (carrying.come_at run k (staging, to) staging within is ∙ sym is_2
+        ∙ sym (get_or-append-add (names_come actions) actions.removed r staging))
 
     -- a thing leaves a path to one name
-    pub left_one : (from one other : List ℕ) → Contains steps.apart (from, one) → Contains steps.apart (from, other)
+    pub left_one : (from one other : List ℕ) → Contains actions.staged (from, one) → Contains actions.staged (from, other)
         → one ≡ other
     left_one from one other has has_2 =
         ap (λ (step : List ℕ × List ℕ). step.1)
-        (one_by_key (λ (step : List ℕ × List ℕ). step.0) steps.apart run.once (from, one) (from, other) has has_2 refl)
+        (one_by_key (λ (step : List ℕ × List ℕ). step.0) actions.staged run.once (from, one) (from, other) has has_2 refl)
 
     -- a thing comes to one path
-    carries_one : (from between to other : List ℕ) → Contains steps.apart (from, between)
-        → Contains steps.together (between, to) → Carries steps from other → other ≡ to
-    carries_one from between to other left comes carries =
-        let same : carries.between ≡ between = left_one from carries.between between carries.leaves left in
+    carries_one : (from staging to other : List ℕ) → Contains actions.staged (from, staging)
+        → Contains actions.placed (staging, to) → Carries actions from other → other ≡ to
+    carries_one from staging to other left comes carries =
+        let same : carries.staging ≡ staging = left_one from carries.staging staging carries.leaves left in
         ap (λ (step : List ℕ × List ℕ). step.1)
-        (one_by_key (λ (step : List ℕ × List ℕ). step.0) steps.together come_once (carries.between, other) (between, to)
+        (one_by_key (λ (step : List ℕ × List ℕ). step.0) actions.placed come_once (carries.staging, other) (staging, to)
         carries.comes comes same)
 
     -- ---- new files
 
     -- the file of a new text is carried to where the moves take the page
-    pub file_carries : (new : List ℕ × List ℕ × List ℕ) → Contains steps.texts new
-        → (c : ℕ) × (c < length changed) × IsNormalTextOf (path_at changed c) new.0 × (to : List ℕ) × Carries steps new.1 to
+    pub file_carries : (new : List ℕ × List ℕ × List ℕ) → Contains actions.texts new
+        → (c : ℕ) × (c < length changed) × IsNormalTextOf (path_at changed c) new.0 × (to : List ℕ) × Carries actions new.1 to
         × AtTreePath moves (path_at changed c) (λ now. IsNormalTextOf now to)
     file_carries new (t, within, is) =
         let (c, inside, old_of) = run.own.of_pages t new within in
@@ -101,13 +101,13 @@ module _ {entries : List Entry} {pages changed : List (List Step)} {moves : List
         subst (λ (new : List ℕ × List ℕ × List ℕ). IsNormalTextOf (path_at changed c) new.0) is old_of in
         let one = run.replaced c [] inside in
         let same : (one.old, one.file, one.text) ≡ new =
-        one_by_key (λ (new : List ℕ × List ℕ × List ℕ). new.0) steps.texts run.one_text (one.old, one.file, one.text) new
+        one_by_key (λ (new : List ℕ × List ℕ × List ℕ). new.0) actions.texts run.one_text (one.old, one.file, one.text) new
         one.written (t, within, is) (old_of_2.only one.old one.old_of.normal_text one.old_of.same) in (
           c,
           inside,
           old_of_2,
           one.to,
-          subst (λ (new : List ℕ × List ℕ × List ℕ). Carries steps new.1 one.to) same one.carries,
+          subst (λ (new : List ℕ × List ℕ × List ℕ). Carries actions new.1 one.to) same one.carries,
           one.goes,
         )
 
@@ -118,11 +118,11 @@ module _ {entries : List Entry} {pages changed : List (List Step)} {moves : List
         → IsNoneAt changed (map name place) ⊎ ((k : ℕ) × (k < length changed) × (place_of (path_at changed k) ≡ Some place))
     changed_or b place at = one_at_or changed (λ k d within. let file = run.files k d within in (file.place, file.leads)) place
 
-    -- where a rename from a name in between leads to
-    pub destination : (from between to : List ℕ) → LeavesFrom moves changed steps.texts from
-        → Contains steps.apart (from, between) → Contains steps.together (between, to)
+    -- where a rename from a staging name leads to
+    pub destination : (from staging to : List ℕ) → LeavesFrom moves changed actions.texts from
+        → Contains actions.staged (from, staging) → Contains actions.placed (staging, to)
         → IsDestination entries moves changed to
-    destination from between to (of_move m inside normal) left comes =
+    destination from staging to (of_move m inside normal) left comes =
         let (b, place, leads, at) =
         IsThere-place entries pages run.whole (move_at moves m).old (run.accepted.apart.come.leave.olds m inside).there in
         by b place leads at (changed_or b place at)
@@ -136,35 +136,35 @@ module _ {entries : List Entry} {pages changed : List (List Step)} {moves : List
             let (top, leads_2, some, fine) = arrivals.new_place run m inside in
             let here : from ≡ carries.old = carries.old_of.only from normal.normal_text normal.same in
             let to_is : carries.new ≡ to =
-            carries_one from between to carries.new left comes
-            (subst (λ old. Carries steps old carries.new) (sym here) carries.carries) in
+            carries_one from staging to carries.new left comes
+            (subst (λ old. Carries actions old carries.new) (sym here) carries.carries) in
             subst (IsDestination entries moves changed) to_is (record {
               place = top;
               some = some;
               named = names_of-normal (move_at moves m).new carries.new top carries.new_of leads_2;
               spelled = spelled-place (move_at moves m).new carries.new top carries.new_of leads_2;
-              ends = subst (HasNoName entries) (append-nil top) (arrivals.HasNoName-own run top [] some fine);
+              ends = subst (HasNoName entries) (append-nil top) (arrivals.HasNoName-reserved run top [] some fine);
               why = inl (m, inside, leads_2);
             })
         by b place leads at (inr (k, within, leads_2)) =
             let gone = (run.moved m inside).removes (λ none. none k within (IsSame-one_place place leads leads_2)) in
             let here : from ≡ gone.old = gone.old_of.only from normal.normal_text normal.same in
-            let same : gone.removes.between ≡ between =
-            left_one from gone.removes.between between
-            (subst (λ old. Contains steps.apart (old, gone.removes.between)) (sym here) gone.removes.leaves) left in
-            absurd (come_kept between to comes (subst (Contains steps.removed) same gone.removes.removed))
-    destination from between to (of_page c inside normal) left comes =
+            let same : gone.removes.staging ≡ staging =
+            left_one from gone.removes.staging staging
+            (subst (λ old. Contains actions.staged (old, gone.removes.staging)) (sym here) gone.removes.leaves) left in
+            absurd (come_kept staging to comes (subst (Contains actions.removed) same gone.removes.removed))
+    destination from staging to (of_page c inside normal) left comes =
         let gone = run.removed c [] inside in
         let here : from ≡ gone.old = gone.old_of.only from normal.normal_text normal.same in
-        let same : gone.removes.between ≡ between =
-        left_one from gone.removes.between between
-        (subst (λ old. Contains steps.apart (old, gone.removes.between)) (sym here) gone.removes.leaves) left in
-        absurd (come_kept between to comes (subst (Contains steps.removed) same gone.removes.removed))
-    destination from between to (of_text old text has) left comes =
+        let same : gone.removes.staging ≡ staging =
+        left_one from gone.removes.staging staging
+        (subst (λ old. Contains actions.staged (old, gone.removes.staging)) (sym here) gone.removes.leaves) left in
+        absurd (come_kept staging to comes (subst (Contains actions.removed) same gone.removes.removed))
+    destination from staging to (of_text old text has) left comes =
         let (c, inside, old_of, other, carries, goes) = file_carries (old, from, text) has in
         let (target, is, normal) = goes in
         let (place, leads, some, ends) = arrivals.target_place run (path_at changed c) target (run.files c [] inside) is in
-        subst (IsDestination entries moves changed) (carries_one from between to other left comes carries) (record {
+        subst (IsDestination entries moves changed) (carries_one from staging to other left comes carries) (record {
           place = place;
           some = some;
           named = names_of-normal target other place normal leads;

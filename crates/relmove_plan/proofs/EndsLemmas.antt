@@ -1,5 +1,5 @@
 -- What is above a new path after the moves: a directory of the tree, or nothing; and where such a directory is before the
--- renames of `together`.
+-- renames of `placed`.
 use Rattle.std.proofs.Common.{All, Bool, true, false, true≢false, ◌≡◌, ◌≢◌, ◌⊎◌, ℕ, ◌<◌, ◌≤◌, ◌+◌, List, [], ◌∷◌, ◌++◌, Some, length, map, drop, get_or, inl, inr, refl, sym, ap, subst, ◌∙◌, append_assoc, append-nil, not, arith}
 use Rattle.std.specs.List.{Any}
 use Rattle.std.proofs.Math.Seq.{drop-append_seam}
@@ -8,18 +8,17 @@ use Rattle.std.proofs.lemmas.List.{get_or-map, get_or_default, length-append, le
 use Rattle.std.proofs.lemmas.List.Elements.{All-map}
 use Rattle.std.proofs.lemmas.Slice.Zip.{AllZip-long}
 use Rattle.relative_path.specs.Steps.{Step, name, components}
-use Rattle.relative_path.specs.RelativePath.{path_components}
 use Rattle.relative_path.specs.Walk.{place_of}
 use Rattle.relative_path.proofs.ForCallers.{IsSame-refl, walk-names}
 use Rattle.relative_path_moves.specs.Moves.{Move, move_at}
 use Rattle.relative_path_places.specs.PlaceIndex.{IsNoneAt, path_at}
-use Rattle.relative_path_moves.specs.TreeMoves.{IsLeftInPlace, IsTakenTo, IsTreeTarget, TakesAlong}
+use Rattle.relative_path_moves.specs.TreeMoves.{IsLeftInPlace, IsTakenTo, IsTreePath, TakesAlong}
 use Rattle.relmove_checks.specs.declared.entry.Entry.{Entry}
 use Rattle.relmove_checks.specs.declared.name_rule.NameRule.{NameRule}
 use Rattle.relmove_checks.specs.Trees.{IsAfter, entry_paths, is_directory}
 use Rattle.relmove_steps.specs.Directories.{LeaveToNames}
-use Rattle.relmove_plan.specs.Runs.{carried, renames_of}
-use Rattle.relmove_steps.specs.Steps.{StepTexts}
+use Rattle.relmove_plan.proofs.RunWords.{carried, renames_of}
+use Rattle.relmove_steps.specs.Actions.{ActionTexts}
 use Rattle.relmove_plan.specs.WholeTrees.{IsAt}
 use Rattle.relmove_plan.proofs.KnownRunsLemmas.{IsKnownRun}
 use Rattle.relmove_plan.proofs.CarriedLemmas.{leaving}
@@ -52,15 +51,15 @@ takes-more moves place whole below others k takes is = record {
   down = is ∙ ap (λ top. top ++ below) takes.down ∙ append_assoc takes.top others below;
 }
 
-module _ {entries : List Entry} {pages changed : List (List Step)} {moves : List Move} {rule : NameRule} {steps : StepTexts}
-    (run : IsKnownRun entries pages changed moves rule steps)
+module _ {entries : List Entry} {pages changed : List (List Step)} {moves : List Move} {rule : NameRule} {actions : ActionTexts}
+    (run : IsKnownRun entries pages changed moves rule actions)
   where
     abbrev pub after : List (List ℕ)
     after = run.accepted.apart.after
 
     -- ---- the places of entries after the moves
 
-    target-leads : (cs target : List Step) (start : List (List ℕ)) → place_of cs ≡ Some start → IsTreeTarget moves cs target
+    pub target-leads : (cs target : List Step) (start : List (List ℕ)) → place_of cs ≡ Some start → IsTreePath moves cs target
         → (place : List (List ℕ)) × (place_of target ≡ Some place)
     target-leads cs target start leads (inl taken) =
         let j = taken.move in
@@ -74,7 +73,7 @@ module _ {entries : List Entry} {pages changed : List (List Step)} {moves : List
         let held = held_at entries pages run.whole e entry within is in
         let (target, target_is, normal) = ways.after_is run e entry within is in
         let (place, leads) =
-        target-leads (path_components entry.path) target (held.directory ++ held.name ∷ []) held.leads target_is in
+        target-leads (components entry.path) target (held.directory ++ held.name ∷ []) held.leads target_is in
         (place, sym (normal.same.everywhere []) ∙ leads)
 
     pub long : length after ≡ length entries
@@ -156,17 +155,17 @@ module _ {entries : List Entry} {pages changed : List (List Step)} {moves : List
 
     -- it comes to where the moves take it
     pub carried-directory : (cs target : List Step) (start end : List (List ℕ)) → place_of cs ≡ Some start
-        → Any (IsAt true start) entries → IsTreeTarget moves cs target → place_of target ≡ Some end
-        → carried (renames_of steps) start ≡ end
+        → Any (IsAt true start) entries → IsTreePath moves cs target → place_of target ≡ Some end
+        → carried (renames_of actions) start ≡ end
     carried-directory cs target start end leads at target_is arrives =
         let come = arrivals.ComesTo-target run true cs start leads at (directory-unchanged cs start leads at) target target_is in
-        ap (carried (renames_of steps)) (some_of (sym leads ∙ come.leaves)) ∙ come.carries
+        ap (carried (renames_of actions)) (some_of (sym leads ∙ come.leaves)) ∙ come.carries
         ∙ some_of (sym come.arrives ∙ arrives)
 
-    pub carried-to : (end : List (List ℕ)) (to : IsDirectoryTo entries after end) → carried (renames_of steps) to.start ≡ end
+    pub carried-to : (end : List (List ℕ)) (to : IsDirectoryTo entries after end) → carried (renames_of actions) to.start ≡ end
     carried-to end to =
         let (target, target_is, normal) = ways.after_is run to.number to.entry to.within to.is in
-        carried-directory (path_components to.entry.path) target to.start end to.at.leads
+        carried-directory (components to.entry.path) target to.start end to.at.leads
         (to.number, to.entry, to.within, to.is, to.at) target_is (normal.same.everywhere [] ∙ to.arrives)
 
     -- ---- what comes to a new path
@@ -179,26 +178,26 @@ module _ {entries : List Entry} {pages changed : List (List Step)} {moves : List
         let (b, place, old, (g, entry, inside, is, at)) =
         IsThere-place entries pages run.whole (move_at moves k).old (run.accepted.apart.come.leave.olds k within).there in
         let (target, target_is, arrives) =
-        directories.AtTreePath-move run k (path_components entry.path) place top within at.leads old new in (
+        directories.AtTreePath-move run k (components entry.path) place top within at.leads old new in (
           g,
           inside,
           place,
           ap place_of (path_at-entry entries g entry inside is) ∙ at.leads,
           old,
-          ways.after_leads run g entry (path_components entry.path) target top inside is
-              (IsSame-refl (path_components entry.path)) target_is arrives,
+          ways.after_leads run g entry (components entry.path) target top inside is
+              (IsSame-refl (components entry.path)) target_is arrives,
         )
 
     -- so what comes to a new path is at the old path of its move
     pub takes-itself : (k : ℕ) → k < length moves → (top : List (List ℕ)) → place_of (move_at moves k).new ≡ Some top
         → (f : ℕ) (entry : Entry) → f < length entries → get_or entries f entry ≡ entry → (place : List (List ℕ))
-        → place_of (path_components entry.path) ≡ Some place → (target : List Step)
-        → IsTreeTarget moves (path_components entry.path) target → place_of target ≡ Some top → TakesAlong moves place k []
+        → place_of (components entry.path) ≡ Some place → (target : List Step)
+        → IsTreePath moves (components entry.path) target → place_of target ≡ Some top → TakesAlong moves place k []
     takes-itself k within top new f entry inside is place leads target target_is arrives =
         let (g, inside_2, place_2, leads_2, old, arrives_2) = moved-entry k within top new in
         let arrives_3 : place_of (components (get_or after f [])) ≡ Some top =
-        ways.after_leads run f entry (path_components entry.path) target top inside is
-        (IsSame-refl (path_components entry.path)) target_is arrives in
+        ways.after_leads run f entry (components entry.path) target top inside is
+        (IsSame-refl (components entry.path)) target_is arrives in
         let same : f ≡ g = ways.after_one run f g top inside inside_2 arrives_3 arrives_2 in
         let here : place ≡ place_2 =
         some_of (sym (ap place_of (path_at-entry entries f entry inside is) ∙ leads)
@@ -212,7 +211,7 @@ module _ {entries : List Entry} {pages changed : List (List Step)} {moves : List
     front-entry b front (n ∷ below) at some =
         (true, HasDirectoryAt-above entries pages run.whole b front n below some at)
 
-    -- ---- before the renames of `together`
+    -- ---- before the renames of `placed`
 
     -- no new path is at a directory that stays, or above it
     stays-apart : (cs : List Step) (start : List (List ℕ)) → place_of cs ≡ Some start → Any (IsAt true start) entries
@@ -223,14 +222,14 @@ module _ {entries : List Entry} {pages changed : List (List Step)} {moves : List
         (some_of (sym (arrivals.new_place run j under.within).1 ∙ under.leads) ∙ none) in
         let (c, (f, entry, inside, is, there)) =
         front-entry true top below (subst (λ place. Any (IsAt true place) entries) under.down at) some in
-        let stays : IsLeftInPlace moves (path_components entry.path) =
+        let stays : IsLeftInPlace moves (components entry.path) =
         λ place k others leads_2 takes.
         left start k (others ++ below) leads
         (takes-more moves place start below others k takes
         (under.down ∙ ap (λ top. top ++ below) (some_of (sym there.leads ∙ leads_2)))) in
         left start j ([] ++ below) leads
         (takes-more moves top start below [] j
-        (takes-itself j under.within top under.leads f entry inside is top there.leads (path_components entry.path)
+        (takes-itself j under.within top under.leads f entry inside is top there.leads (components entry.path)
         (inr (stays, refl)) there.leads)
         under.down)
 
@@ -273,7 +272,7 @@ module _ {entries : List Entry} {pages changed : List (List Step)} {moves : List
             (takes-more moves (top ++ first) taken.place others rest l takes (sym place_is ∙ start_is)) in
             let long_rest = length-append rest others in
             omega (arith, more, long_rest, long_first) in
-            let target_is : IsTreeTarget moves (path_components entry.path) ((move_at moves taken.move).new ++ map name first) =
+            let target_is : IsTreePath moves (components entry.path) ((move_at moves taken.move).new ++ map name first) =
             inl (record {
               place = top ++ first;
               leads = there.leads;
@@ -293,16 +292,16 @@ module _ {entries : List Entry} {pages changed : List (List Step)} {moves : List
             let count = ap length first_is in
             absurd (omega (arith, none, count))
 
-    module _ (between : List (List ℕ)) (leave : LeaveToNames moves between steps) where
-      -- a directory that comes to a place is where what comes to that place is before the renames of `together`
+    module _ (staging : List (List ℕ)) (leave : LeaveToNames moves staging actions) where
+      -- a directory that comes to a place is where what comes to that place is before the renames of `placed`
       pub from-directory : (end : List (List ℕ)) (to : IsDirectoryTo entries after end)
-          → IsMadeFrom moves between end (carried (leaving steps) to.start)
+          → IsMadeFrom moves staging end (carried (leaving actions) to.start)
       from-directory end to =
           let (target, target_is, normal) = ways.after_is run to.number to.entry to.within to.is in
           by target target_is (normal.same.everywhere [] ∙ to.arrives)
         where
           cs : List Step
-          cs = path_components to.entry.path
+          cs = components to.entry.path
 
           at : Any (IsAt true to.start) entries
           at = (to.number, to.entry, to.within, to.is, to.at)
@@ -310,8 +309,8 @@ module _ {entries : List Entry} {pages changed : List (List Step)} {moves : List
           unchanged : IsNoneAt changed cs
           unchanged = directory-unchanged cs to.start to.at.leads at
 
-          by : (target : List Step) → IsTreeTarget moves cs target → place_of target ≡ Some end
-              → IsMadeFrom moves between end (carried (leaving steps) to.start)
+          by : (target : List Step) → IsTreePath moves cs target → place_of target ≡ Some end
+              → IsMadeFrom moves staging end (carried (leaving actions) to.start)
           by target (inr (left, same)) leads =
               let here : to.start ≡ end = some_of (sym to.at.leads ∙ sym (ap place_of same) ∙ leads) in
               IsMadeFrom.from_place
@@ -333,5 +332,5 @@ module _ {entries : List Entry} {pages changed : List (List Step)} {moves : List
                     absurd (nearest-new cs target to.start end to.at.leads at taken new new_leads end_is k others under less)
                 | inr fine_2 ↦ fine_2
               ])
-              (arrivals.carried-taken run true cs to.start to.at.leads at unchanged target taken old (get_or between j []) old_of
+              (arrivals.carried-taken run true cs to.start to.at.leads at unchanged target taken old (get_or staging j []) old_of
               leaves)

@@ -5,34 +5,35 @@ use Rattle.relative_path.specs.Steps.{Step, name}
 use Rattle.relative_path.specs.Walk.{IsSame, place_of}
 use Rattle.relative_path.proofs.ForCallers.{walk-names}
 use Rattle.relative_path_places.specs.PlaceIndex.{IsNoneAt, path_at}
-use Rattle.relmove_plan.proofs.RunsLemmas.{IsUnder, place_or, under_or}
+use Rattle.relmove_plan.specs.FileTrees.{IsUnder}
+use Rattle.relmove_plan.proofs.RunsLemmas.{place_or, under_or}
 use Rattle.relmove_plan.proofs.WholeTreesLemmas.{some_of}
 
 -- of the renames, this one is the first from the place or from above it
-pub record FirstUnder (steps : List (List (List ℕ) × List (List ℕ))) (place : List (List ℕ)) : Type 0 where
+pub record FirstUnder (actions : List (List (List ℕ) × List (List ℕ))) (place : List (List ℕ)) : Type 0 where
   pub number : ℕ
   pub step : List (List ℕ) × List (List ℕ)
   pub below : List (List ℕ)
-  pub within : number < length steps
-  pub here : get_or steps number step ≡ step
+  pub within : number < length actions
+  pub here : get_or actions number step ≡ step
   pub under : place ≡ step.0 ++ below
-  pub before : (j : ℕ) (d : List (List ℕ) × List (List ℕ)) → j < number → ¬ IsUnder place (get_or steps j d).0
+  pub before : (j : ℕ) (d : List (List ℕ) × List (List ℕ)) → j < number → ¬ IsUnder place (get_or actions j d).0
 
 -- no rename leads from the place or from above it, or one is the first that does
-pub first_under : (steps : List (List (List ℕ) × List (List ℕ))) (place : List (List ℕ))
-    → All (λ step. ¬ IsUnder place step.0) steps ⊎ FirstUnder steps place
+pub first_under : (actions : List (List (List ℕ) × List (List ℕ))) (place : List (List ℕ))
+    → All (λ step. ¬ IsUnder place step.0) actions ⊎ FirstUnder actions place
 first_under [] place = inl (All-nil (λ (step : List (List ℕ) × List (List ℕ)). ¬ IsUnder place step.0))
-first_under (step ∷ steps) place = by (under_or place step.0) (first_under steps place)
+first_under (step ∷ actions) place = by (under_or place step.0) (first_under actions place)
   where
     before_next : (m : ℕ) → ¬ IsUnder place step.0
-        → ((j : ℕ) (d : List (List ℕ) × List (List ℕ)) → j < m → ¬ IsUnder place (get_or steps j d).0)
-        → (j : ℕ) (d : List (List ℕ) × List (List ℕ)) → j < suc m → ¬ IsUnder place (get_or (step ∷ steps) j d).0
+        → ((j : ℕ) (d : List (List ℕ) × List (List ℕ)) → j < m → ¬ IsUnder place (get_or actions j d).0)
+        → (j : ℕ) (d : List (List ℕ) × List (List ℕ)) → j < suc m → ¬ IsUnder place (get_or (step ∷ actions) j d).0
     before_next m none before zero d less = none
     before_next m none before (suc j) d less = before j d (omega (arith, less))
 
     by : IsUnder place step.0 ⊎ (¬ IsUnder place step.0)
-        → All (λ step. ¬ IsUnder place step.0) steps ⊎ FirstUnder steps place
-        → All (λ step. ¬ IsUnder place step.0) (step ∷ steps) ⊎ FirstUnder (step ∷ steps) place
+        → All (λ step. ¬ IsUnder place step.0) actions ⊎ FirstUnder actions place
+        → All (λ step. ¬ IsUnder place step.0) (step ∷ actions) ⊎ FirstUnder (step ∷ actions) place
     by (inl (below, under)) rest = inr (record {
       number = 0;
       step = step;
@@ -43,7 +44,7 @@ first_under (step ∷ steps) place = by (under_or place step.0) (first_under ste
       before = λ j d less. absurd (omega (arith, less));
     })
     by (inr none) (inl others) =
-        inl (All-cons (λ (step : List (List ℕ) × List (List ℕ)). ¬ IsUnder place step.0) step steps none others)
+        inl (All-cons (λ (step : List (List ℕ) × List (List ℕ)). ¬ IsUnder place step.0) step actions none others)
     by (inr none) (inr first) =
         let inside = first.within in
         inr (record {

@@ -6,27 +6,27 @@ use Rattle.std.proofs.lemmas.List.{get_or-append-add, get_or-map, get_or_append_
 use Rattle.std.proofs.lemmas.List.Elements.{All-drop}
 use Rattle.std.proofs.lemmas.Slice.Zip.{AllZip-long}
 use Rattle.relative_path.specs.Steps.{Step, name, components}
-use Rattle.relative_path.specs.RelativePath.{path_components}
 use Rattle.relative_path.specs.Walk.{IsSame, place_of}
 use Rattle.relative_path.specs.Normalizing.{IsNormalTextOf}
 use Rattle.relative_path.proofs.ForCallers.{IsSame-place, IsSame-sym, IsSame-trans}
 use Rattle.relative_path_moves.specs.Moves.{Move}
 use Rattle.relative_path_places.specs.PlaceIndex.{IsNoneAt, path_at}
-use Rattle.relative_path_moves.specs.TreeMoves.{IsTreeTarget}
-use Rattle.relative_path_moves.proofs.ForCallers.{AtTreePath-same, IsTreeTarget-only}
+use Rattle.relative_path_moves.specs.TreeMoves.{IsTreePath}
+use Rattle.relative_path_moves.proofs.ForCallers.{AtTreePath-same, IsTreePath-only}
 use Rattle.relmove_checks.specs.declared.entry.Entry.{Entry}
 use Rattle.relmove_checks.specs.declared.name_rule.NameRule.{NameRule}
 use Rattle.relmove_checks.specs.Trees.{IsAfter, entry_paths}
 use Rattle.relmove_checks.proofs.ForCallers.{AllZip-at}
-use Rattle.relmove_plan.specs.Runs.{names_of, rename_places, carried, renames_of, IsThereAfter, NothingInTheWay}
-use Rattle.relmove_steps.specs.Steps.{StepTexts}
+use Rattle.relmove_plan.specs.FileTrees.{IsUnder, names_of}
+use Rattle.relmove_plan.proofs.RunWords.{rename_places, carried, renames_of, IsThereAfter, NothingInTheWay}
+use Rattle.relmove_steps.specs.Actions.{ActionTexts}
 use Rattle.relmove_plan.specs.WholeTrees.{IsAt}
-use Rattle.relmove_plan.proofs.CarriedLemmas.{HasNoName, coming, is_own, is_own-numbered, leaving}
+use Rattle.relmove_plan.proofs.CarriedLemmas.{HasNoName, coming, is_reserved_text, is_reserved_text-numbered, leaving}
 use Rattle.relmove_plan.proofs.CarriedLemmas as carrying
 use Rattle.relmove_plan.proofs.ArrivalsLemmas as arrivals
 use Rattle.relmove_plan.proofs.KnownRunsLemmas.{IsKnownRun}
 use Rattle.relmove_plan.proofs.PlacesLemmas.{names_of-normal}
-use Rattle.relmove_plan.proofs.RunsLemmas.{IsUnder, carried-append, carried-elsewhere}
+use Rattle.relmove_plan.proofs.RunsLemmas.{carried-append, carried-elsewhere}
 use Rattle.relmove_plan.proofs.SourcesLemmas.{IsUnder-first, element}
 use Rattle.relmove_plan.proofs.WaysLemmas.{IsThing, renames-coming}
 use Rattle.relmove_plan.proofs.WaysLemmas as ways
@@ -35,9 +35,9 @@ use Rattle.relmove_plan.proofs.ComingLemmas.{one_by_key}
 use Rattle.relmove_plan.proofs.ComingLemmas as coming_names
 
 -- a new file of the page at the place
-pub record IsFileOf (changed : List (List Step)) (steps : StepTexts) (file place : List (List ℕ)) : Type 0 where
+pub record IsFileOf (changed : List (List Step)) (actions : ActionTexts) (file place : List (List ℕ)) : Type 0 where
   pub new : List ℕ × List ℕ × List ℕ
-  pub written : Contains steps.texts new
+  pub written : Contains actions.texts new
   pub here : names_of new.1 ≡ file
   pub page : ℕ
   pub within : page < length changed
@@ -45,17 +45,17 @@ pub record IsFileOf (changed : List (List Step)) (steps : StepTexts) (file place
   pub leads : place_of (path_at changed page) ≡ Some place
 
 -- what starts there is an entry that doesn't change, or the new file of one that does, and the entry comes to the end
-pub record BelongsTo (entries : List Entry) (changed : List (List Step)) (steps : StepTexts) (after : List (List ℕ))
+pub record BelongsTo (entries : List Entry) (changed : List (List Step)) (actions : ActionTexts) (after : List (List ℕ))
     (start end : List (List ℕ)) : Type 0 where
   pub number : ℕ
   pub within : number < length entries
   pub place : List (List ℕ)
   pub leads : place_of (path_at (entry_paths entries) number) ≡ Some place
   pub arrives : place_of (components (get_or after number [])) ≡ Some end
-  pub thing : ((start ≡ place) × IsNoneAt changed (map name place)) ⊎ IsFileOf changed steps start place
+  pub thing : ((start ≡ place) × IsNoneAt changed (map name place)) ⊎ IsFileOf changed actions start place
 
-module _ {entries : List Entry} {pages changed : List (List Step)} {moves : List Move} {rule : NameRule} {steps : StepTexts}
-    (run : IsKnownRun entries pages changed moves rule steps)
+module _ {entries : List Entry} {pages changed : List (List Step)} {moves : List Move} {rule : NameRule} {actions : ActionTexts}
+    (run : IsKnownRun entries pages changed moves rule actions)
   where
     -- the paths of the entries after the moves
     abbrev pub after : List (List ℕ)
@@ -72,53 +72,54 @@ module _ {entries : List Entry} {pages changed : List (List Step)} {moves : List
 
     -- so the normal path of an entry leads to where a file that leads to the entry is
     pub after_leads : (e : ℕ) (entry : Entry) (cs target : List Step) (end : List (List ℕ)) → e < length entries
-        → get_or entries e entry ≡ entry → IsSame cs (path_components entry.path) → IsTreeTarget moves cs target
+        → get_or entries e entry ≡ entry → IsSame cs (components entry.path) → IsTreePath moves cs target
         → place_of target ≡ Some end → place_of (components (get_or after e [])) ≡ Some end
     after_leads e entry cs target end within is same target_is leads =
         let (one, one_is, normal) = after_is e entry within is in
         let (other, other_is, leads_2) =
-        AtTreePath-same moves cs (path_components entry.path) (λ now. place_of now ≡ Some end)
+        AtTreePath-same moves cs (components entry.path) (λ now. place_of now ≡ Some end)
         (λ now. place_of now ≡ Some end) same (λ t u same leads. sym (same.everywhere []) ∙ leads)
         (target, target_is, leads) in
         sym (normal.same.everywhere [])
         ∙ ap place_of
-        (IsTreeTarget-only moves (path_components entry.path) other one run.accepted.apart.come.leave.apart other_is one_is)
+        (IsTreePath-only moves (components entry.path) other one run.accepted.apart.come.leave.apart other_is one_is)
         ∙ leads_2
 
-    -- a page's old text stays at its name in between
+    -- a page's old text stays at its staging name
     stays_away : (c : ℕ) (place end : List (List ℕ)) → c < length changed → place_of (path_at changed c) ≡ Some place
-        → carried (renames_of steps) place ≡ end → ¬ HasNoName entries end
+        → carried (renames_of actions) place ≡ end → ¬ HasNoName entries end
     stays_away c place end inside leads comes ends =
         let gone = run.removed c [] inside in
-        let between = gone.removes.between in
+        let staging = gone.removes.staging in
         let (i, within, is) = gone.removes.leaves in
         let (number, fits, numbered) = run.names.numbered i [] (rw length-map within) in
-        let is_name : is_own between ≡ true =
-        ap is_own (sym (carrying.left_at run i (gone.old, between) [] within is) ∙ numbered) ∙ is_own-numbered number in
+        let is_name : is_reserved_text staging ≡ true =
+        ap is_reserved_text (sym (carrying.left_at run i (gone.old, staging) [] within is) ∙ numbered)
+        ∙ is_reserved_text-numbered number in
         let old_is : names_of gone.old ≡ place = names_of-normal (path_at changed c) gone.old place gone.old_of leads in
-        let here : carried (renames_of steps) place ≡ between ∷ [] =
-        ap (λ renames. carried renames place) (map-append rename_places steps.apart steps.together)
-        ∙ carried-append (leaving steps) (coming steps) place
-        ∙ ap (carried (coming steps))
-        (ap (carried (leaving steps)) (sym old_is) ∙ ways.carried-left run i (gone.old, between) within is)
-        ∙ carried-elsewhere (coming steps) (between ∷ [])
-        (carrying.together_clear run (between ∷ [])
+        let here : carried (renames_of actions) place ≡ staging ∷ [] =
+        ap (λ renames. carried renames place) (map-append rename_places actions.staged actions.placed)
+        ∙ carried-append (leaving actions) (coming actions) place
+        ∙ ap (carried (coming actions))
+        (ap (carried (leaving actions)) (sym old_is) ∙ ways.carried-left run i (gone.old, staging) within is)
+        ∙ carried-elsewhere (coming actions) (staging ∷ [])
+        (carrying.placed_clear run (staging ∷ [])
         (λ step has under.
         coming_names.come_kept run step.0 step.1 has
-        (subst (Contains steps.removed) (IsUnder-first between step.0 [] [] under) gone.removes.removed))) in
-        ends between is_name (carrying.left_unused run i (gone.old, between) within is) ([], sym comes ∙ here)
+        (subst (Contains actions.removed) (IsUnder-first staging step.0 [] [] under) gone.removes.removed))) in
+        ends staging is_name (carrying.left_unused run i (gone.old, staging) within is) ([], sym comes ∙ here)
 
-    -- an entry that comes to an end without a name in between belongs to itself
+    -- an entry that comes to an end without a staging name belongs to itself
     entry_belongs : (start end : List (List ℕ)) (b : Bool) → Any (IsAt b start) entries
-        → carried (renames_of steps) start ≡ end → HasNoName entries end → BelongsTo entries changed steps after start end
+        → carried (renames_of actions) start ≡ end → HasNoName entries end → BelongsTo entries changed actions after start end
     entry_belongs start end b at comes ends = by at (coming_names.changed_or run b start at)
       where
         by : Any (IsAt b start) entries
             → IsNoneAt changed (map name start) ⊎ ((k : ℕ) × (k < length changed) × (place_of (path_at changed k) ≡ Some start))
-            → BelongsTo entries changed steps after start end
+            → BelongsTo entries changed actions after start end
         by (e, entry, within, is, here) (inl none) =
             let (target, target_is, normal) = after_is e entry within is in
-            let come = arrivals.ComesTo-target run b (path_components entry.path) start here.leads at
+            let come = arrivals.ComesTo-target run b (components entry.path) start here.leads at
             (λ k inside same. none k inside (IsSame-trans (IsSame-sym (IsSame-place here.leads)) same)) target target_is in
             let from_is : come.from ≡ start = some_of (sym come.leaves ∙ here.leads) in
             record {
@@ -127,14 +128,14 @@ module _ {entries : List Entry} {pages changed : List (List Step)} {moves : List
               place = start;
               leads = ap place_of (path_at-entry entries e entry within is) ∙ here.leads;
               arrives = sym (normal.same.everywhere []) ∙ come.arrives
-                  ∙ ap Some (sym come.carries ∙ ap (carried (renames_of steps)) from_is ∙ comes);
+                  ∙ ap Some (sym come.carries ∙ ap (carried (renames_of actions)) from_is ∙ comes);
               thing = inl (refl, none);
             }
         by found (inr (c, inside, leads)) = absurd (stays_away c start end inside leads comes ends)
 
     -- a new file belongs to the entry of its page
-    file_belongs : (start end : List (List ℕ)) (new : List ℕ × List ℕ × List ℕ) → Contains steps.texts new
-        → names_of new.1 ≡ start → carried (renames_of steps) start ≡ end → BelongsTo entries changed steps after start end
+    file_belongs : (start end : List (List ℕ)) (new : List ℕ × List ℕ × List ℕ) → Contains actions.texts new
+        → names_of new.1 ≡ start → carried (renames_of actions) start ≡ end → BelongsTo entries changed actions after start end
     file_belongs start end new has here comes =
         let (c, inside, old_of, to, carries, goes) = coming_names.file_carries run new has in
         let (target, is, normal) = goes in
@@ -142,7 +143,7 @@ module _ {entries : List Entry} {pages changed : List (List Step)} {moves : List
         let (place, leads, some, ends) = arrivals.target_place run (path_at changed c) target file is in
         let end_is : place ≡ end =
         sym (carrying.carried-from run new.1 to place carries (names_of-normal target to place normal leads) ends)
-        ∙ ap (carried (renames_of steps)) here ∙ comes in
+        ∙ ap (carried (renames_of actions)) here ∙ comes in
         let (e, entry, within, entry_is, at) = file.file in
         record {
           number = e;
@@ -162,9 +163,9 @@ module _ {entries : List Entry} {pages changed : List (List Step)} {moves : List
           });
         }
 
-    -- what comes to an end without a name in between belongs to an entry
-    pub belongs : (start end : List (List ℕ)) → IsThing entries steps start → carried (renames_of steps) start ≡ end
-        → HasNoName entries end → BelongsTo entries changed steps after start end
+    -- what comes to an end without a staging name belongs to an entry
+    pub belongs : (start end : List (List ℕ)) → IsThing entries actions start → carried (renames_of actions) start ≡ end
+        → HasNoName entries end → BelongsTo entries changed actions after start end
     belongs start end (inl (b, at)) comes ends = entry_belongs start end b at comes ends
     belongs start end (inr (t, new, within, is, here)) comes ends = file_belongs start end new (t, within, is) here comes
 
@@ -189,8 +190,8 @@ module _ {entries : List Entry} {pages changed : List (List Step)} {moves : List
     ]
 
     -- what belongs to one entry is one thing
-    thing_one : (one other end : List (List ℕ)) → BelongsTo entries changed steps after one end
-        → BelongsTo entries changed steps after other end → one ≡ other
+    thing_one : (one other end : List (List ℕ)) → BelongsTo entries changed actions after one end
+        → BelongsTo entries changed actions after other end → one ≡ other
     thing_one one other end of of_2 = elim (cases_order of.number of_2.number) [
       | inl same ↦
           by of.thing of_2.thing
@@ -199,12 +200,12 @@ module _ {entries : List Entry} {pages changed : List (List Step)} {moves : List
       | inr (inr more) ↦ absurd (after_apart of_2.number of.number end more of.within of_2.arrives of.arrives)
     ]
       where
-        unlike : (file place : List (List ℕ)) → IsFileOf changed steps file place → ¬ IsNoneAt changed (map name place)
+        unlike : (file place : List (List ℕ)) → IsFileOf changed actions file place → ¬ IsNoneAt changed (map name place)
         unlike file place is none =
             none is.page is.within (IsSame-sym (IsSame-place is.leads))
 
-        by : ((one ≡ of.place) × IsNoneAt changed (map name of.place)) ⊎ IsFileOf changed steps one of.place
-            → ((other ≡ of_2.place) × IsNoneAt changed (map name of_2.place)) ⊎ IsFileOf changed steps other of_2.place
+        by : ((one ≡ of.place) × IsNoneAt changed (map name of.place)) ⊎ IsFileOf changed actions one of.place
+            → ((other ≡ of_2.place) × IsNoneAt changed (map name of_2.place)) ⊎ IsFileOf changed actions other of_2.place
             → of.place ≡ of_2.place → one ≡ other
         by (inl (here, none)) (inl (here_2, none_2)) same = here ∙ same ∙ sym here_2
         by (inl (here, none)) (inr file) same =
@@ -218,15 +219,15 @@ module _ {entries : List Entry} {pages changed : List (List Step)} {moves : List
             file_2.old_of.only file.new.0 file.old_of.normal_text (IsSame-trans together file.old_of.same) in
             sym file.here
             ∙ ap (λ (new : List ℕ × List ℕ × List ℕ). names_of new.1)
-            (one_by_key (λ (new : List ℕ × List ℕ × List ℕ). new.0) steps.texts run.one_text file.new file_2.new file.written
+            (one_by_key (λ (new : List ℕ × List ℕ × List ℕ). new.0) actions.texts run.one_text file.new file_2.new file.written
             file_2.written text)
             ∙ file_2.here
 
     -- ---- each rename
 
-    -- nothing is where a rename from a name in between leads to
-    pub IsFree-comes : (k : ℕ) (step : List ℕ × List ℕ) → k < length steps.together → get_or steps.together k step ≡ step
-        → ¬ IsThereAfter entries steps (length steps.apart + k) (names_of step.1)
+    -- nothing is where a rename from a staging name leads to
+    pub IsFree-comes : (k : ℕ) (step : List ℕ × List ℕ) → k < length actions.placed → get_or actions.placed k step ≡ step
+        → ¬ IsThereAfter entries actions (length actions.staged + k) (names_of step.1)
     IsFree-comes k step within is there =
         let (i, other, within_2, is_2, same) = ways.left_before run k step within is in
         by i other within_2 is_2 same
@@ -235,22 +236,22 @@ module _ {entries : List Entry} {pages changed : List (List Step)} {moves : List
         end = names_of step.1
 
         count : ℕ
-        count = length steps.apart + k
+        count = length actions.staged + k
 
-        by : (i : ℕ) (other : List ℕ × List ℕ) → i < length steps.apart → get_or steps.apart i other ≡ other
+        by : (i : ℕ) (other : List ℕ × List ℕ) → i < length actions.staged → get_or actions.staged i other ≡ other
             → other.1 ≡ step.0 → ⊥
         by i other within_2 is_2 same =
             ends step.0 (carrying.name_own run k step within is) (carrying.name_unused run k step within is) (
               [],
-              sym there.now ∙ ap (carried (take count (renames_of steps))) one
+              sym there.now ∙ ap (carried (take count (renames_of actions))) one
                   ∙ ways.carried-before run k i step other within is within_2 is_2 same
                   ∙ carrying.name_place run k step within is,
             )
           where
-            left : Contains steps.apart (other.0, step.0)
-            left = (i, within_2, subst (λ b. get_or steps.apart i (other.0, b) ≡ (other.0, b)) same is_2)
+            left : Contains actions.staged (other.0, step.0)
+            left = (i, within_2, subst (λ b. get_or actions.staged i (other.0, b) ≡ (other.0, b)) same is_2)
 
-            comes : Contains steps.together step
+            comes : Contains actions.placed step
             comes = (k, within, is)
 
             ends : HasNoName entries (names_of step.1)
@@ -259,22 +260,23 @@ module _ {entries : List Entry} {pages changed : List (List Step)} {moves : List
                 subst (HasNoName entries) (sym to.named) to.ends
 
             -- what is there stays there
-            still : carried (renames_of steps) there.start ≡ names_of step.1
+            still : carried (renames_of actions) there.start ≡ names_of step.1
             still =
-                ap (λ renames. carried renames there.start) (map-append rename_places steps.apart steps.together)
-                ∙ ap (λ more. carried (leaving steps ++ more) there.start) (sym (take-append-drop k (coming steps)))
-                ∙ carried-append (leaving steps) (take k (coming steps) ++ drop k (coming steps)) there.start
-                ∙ carried-append (take k (coming steps)) (drop k (coming steps)) (carried (leaving steps) there.start)
-                ∙ ap (carried (drop k (coming steps)))
-                (sym (carried-append (leaving steps) (take k (coming steps)) there.start)
-                ∙ ap (λ renames. carried renames there.start) (sym (renames-coming steps k)) ∙ there.now)
-                ∙ carried-elsewhere (drop k (coming steps)) (names_of step.1)
-                (All-drop (λ other. ¬ IsUnder (names_of step.1) other.0) k (coming steps) (carrying.end_clear run (names_of step.1) ends))
+                ap (λ renames. carried renames there.start) (map-append rename_places actions.staged actions.placed)
+                ∙ ap (λ more. carried (leaving actions ++ more) there.start) (sym (take-append-drop k (coming actions)))
+                ∙ carried-append (leaving actions) (take k (coming actions) ++ drop k (coming actions)) there.start
+                ∙ carried-append (take k (coming actions)) (drop k (coming actions)) (carried (leaving actions) there.start)
+                ∙ ap (carried (drop k (coming actions)))
+                (sym (carried-append (leaving actions) (take k (coming actions)) there.start)
+                ∙ ap (λ renames. carried renames there.start) (sym (renames-coming actions k)) ∙ there.now)
+                ∙ carried-elsewhere (drop k (coming actions)) (names_of step.1)
+                (All-drop (λ other. ¬ IsUnder (names_of step.1) other.0) k (coming actions)
+                (carrying.end_clear run (names_of step.1) ends))
 
-            arrives : carried (renames_of steps) (names_of other.0) ≡ names_of step.1
+            arrives : carried (renames_of actions) (names_of other.0) ≡ names_of step.1
             arrives =
                 carrying.carried-from run other.0 step.1 (names_of step.1)
-                (record { between = step.0; leaves = left; comes = comes }) refl ends
+                (record { staging = step.0; leaves = left; comes = comes }) refl ends
 
             one : there.start ≡ names_of other.0
             one =
@@ -283,46 +285,46 @@ module _ {entries : List Entry} {pages changed : List (List Step)} {moves : List
                 (belongs (names_of other.0) (names_of step.1) (ways.IsThing-leaves run i other within_2 is_2) arrives ends)
 
     -- each rename leads from where something is to where nothing is
-    pub NothingInTheWay-steps : NothingInTheWay entries steps
-    NothingInTheWay-steps k place within is = elim (cases_lt k (length steps.apart)) [
+    pub NothingInTheWay-actions : NothingInTheWay entries actions
+    NothingInTheWay-actions k place within is = elim (cases_lt k (length actions.staged)) [
       | inl less ↦ first less
       | inr no_less ↦ second no_less
     ]
       where
-        long : length (renames_of steps) ≡ length steps.apart + length steps.together
-        long = length-map (steps.apart ++ steps.together) rename_places ∙ length-append steps.apart steps.together
+        long : length (renames_of actions) ≡ length actions.staged + length actions.placed
+        long = length-map (actions.staged ++ actions.placed) rename_places ∙ length-append actions.staged actions.placed
 
-        here : (step : List ℕ × List ℕ) → get_or (steps.apart ++ steps.together) k step ≡ step → rename_places step ≡ place
+        here : (step : List ℕ × List ℕ) → get_or (actions.staged ++ actions.placed) k step ≡ step → rename_places step ≡ place
         here step at =
             ap rename_places (sym at)
-            ∙ sym (get_or-map rename_places (steps.apart ++ steps.together) k step place
-            (omega (arith, within, length-map (steps.apart ++ steps.together) rename_places))) ∙ is
+            ∙ sym (get_or-map rename_places (actions.staged ++ actions.placed) k step place
+            (omega (arith, within, length-map (actions.staged ++ actions.placed) rename_places))) ∙ is
 
         of : (step : List ℕ × List ℕ) → rename_places step ≡ place
-            → IsThereAfter entries steps k (names_of step.0) × (¬ IsThereAfter entries steps k (names_of step.1))
-            → IsThereAfter entries steps k place.0 × (¬ IsThereAfter entries steps k place.1)
+            → IsThereAfter entries actions k (names_of step.0) × (¬ IsThereAfter entries actions k (names_of step.1))
+            → IsThereAfter entries actions k place.0 × (¬ IsThereAfter entries actions k place.1)
         of step same =
-            subst (λ (place : List (List ℕ) × List (List ℕ)). IsThereAfter entries steps k place.0
-            × (¬ IsThereAfter entries steps k place.1)) same
+            subst (λ (place : List (List ℕ) × List (List ℕ)). IsThereAfter entries actions k place.0
+            × (¬ IsThereAfter entries actions k place.1)) same
 
-        first : k < length steps.apart
-            → IsThereAfter entries steps k place.0 × (¬ IsThereAfter entries steps k place.1)
+        first : k < length actions.staged
+            → IsThereAfter entries actions k place.0 × (¬ IsThereAfter entries actions k place.1)
         first less =
-            let (step, at) = element steps.apart k less in
-            of step (here step (get_or_append_left steps.apart steps.together step k less ∙ at))
+            let (step, at) = element actions.staged k less in
+            of step (here step (get_or_append_left actions.staged actions.placed step k less ∙ at))
             (ways.IsThere-leaves run k step less at, ways.IsFree-leaves run k step less at)
 
-        second : length steps.apart ≤ k
-            → IsThereAfter entries steps k place.0 × (¬ IsThereAfter entries steps k place.1)
+        second : length actions.staged ≤ k
+            → IsThereAfter entries actions k place.0 × (¬ IsThereAfter entries actions k place.1)
         second no_less =
-            let m : ℕ = k - length steps.apart in
-            let k_is : length steps.apart + m ≡ k = omega (arith, no_less) in
-            let inside : m < length steps.together = omega (arith, no_less, within, long) in
-            let (step, at) = element steps.together m inside in
-            let at_2 : get_or (steps.apart ++ steps.together) k step ≡ step =
-            ap (λ n. get_or (steps.apart ++ steps.together) n step) (sym k_is)
-            ∙ get_or-append-add steps.apart steps.together m step ∙ at in
+            let m : ℕ = k - length actions.staged in
+            let k_is : length actions.staged + m ≡ k = omega (arith, no_less) in
+            let inside : m < length actions.placed = omega (arith, no_less, within, long) in
+            let (step, at) = element actions.placed m inside in
+            let at_2 : get_or (actions.staged ++ actions.placed) k step ≡ step =
+            ap (λ n. get_or (actions.staged ++ actions.placed) n step) (sym k_is)
+            ∙ get_or-append-add actions.staged actions.placed m step ∙ at in
             of step (here step at_2) (
-              subst (λ n. IsThereAfter entries steps n (names_of step.0)) k_is (ways.IsThere-comes run m step inside at),
-              subst (λ n. ¬ IsThereAfter entries steps n (names_of step.1)) k_is (IsFree-comes m step inside at),
+              subst (λ n. IsThereAfter entries actions n (names_of step.0)) k_is (ways.IsThere-comes run m step inside at),
+              subst (λ n. ¬ IsThereAfter entries actions n (names_of step.1)) k_is (IsFree-comes m step inside at),
             )

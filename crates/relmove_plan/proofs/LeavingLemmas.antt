@@ -4,8 +4,7 @@ use Rattle.std.specs.List.{AllZip}
 use Rattle.std.proofs.lemmas.List.{get_or-map, get_or_default, length-map}
 use Rattle.std.proofs.lemmas.List.Elements.{All-cons, All-head, All-nil, All-tail}
 use Rattle.std.proofs.lemmas.List.Kept.{AllPairs-cons}
-use Rattle.relative_path.specs.RelativePath.{path_components}
-use Rattle.relative_path.specs.Steps.{Step}
+use Rattle.relative_path.specs.Steps.{Step, components}
 use Rattle.relative_path.specs.Walk.{IsSame}
 use Rattle.relative_path.proofs.ForCallers.{IsSame-place, IsSame-refl, IsSame-sym, IsSame-trans}
 use Rattle.relative_path_links.specs.declared.site.MovedSitePage.{MovedSitePage}
@@ -14,7 +13,7 @@ use Rattle.relative_path_moves.specs.Moves.{Move}
 use Rattle.relative_path_places.specs.PlaceIndex.{IsNoneAt, path_at}
 use Rattle.relmove_checks.specs.declared.entry.Entry.{Entry}
 use Rattle.relmove_checks.specs.declared.name_rule.NameRule.{NameRule}
-use Rattle.relmove_checks.specs.Plan.{IsAccepted}
+use Rattle.relmove_checks.specs.Plan.{AreAllowed}
 use Rattle.relmove_checks.specs.Trees.{AreDistinct, entry_paths}
 use Rattle.relmove_steps.specs.NewFiles.{LeaveFromEntries}
 use Rattle.relmove_steps.specs.Pages.{changed_paths, page_paths}
@@ -29,13 +28,13 @@ All-changed_paths P [] news each = each
 All-changed_paths P (page ∷ pages) [] each = All-nil P
 All-changed_paths P (page ∷ pages) (new ∷ news) each =
     either (is_some new.text)
-    (All-changed_paths P pages news (All-tail P (path_components page.path) (page_paths pages) each))
+    (All-changed_paths P pages news (All-tail P (components page.path.now) (page_paths pages) each))
   where
     either : (changes : Bool) → All P (changed_paths pages news)
-        → All P (if changes then path_components page.path ∷ changed_paths pages news else changed_paths pages news)
+        → All P (if changes then components page.path.now ∷ changed_paths pages news else changed_paths pages news)
     either true rest =
-        All-cons P (path_components page.path) (changed_paths pages news)
-        (All-head P (path_components page.path) (page_paths pages) each) rest
+        All-cons P (components page.path.now) (changed_paths pages news)
+        (All-head P (components page.path.now) (page_paths pages) each) rest
     either false rest = rest
 
 -- the same of each path and each later one
@@ -49,17 +48,17 @@ AllPairs-changed_paths R (page ∷ pages) (new ∷ news) each =
     (λ i j d l within. each (suc i) (suc j) d (omega (arith, l)) (omega (arith, within))))
   where
     either : (changes : Bool) → AllPairs R (changed_paths pages news)
-        → AllPairs R (if changes then path_components page.path ∷ changed_paths pages news else changed_paths pages news)
+        → AllPairs R (if changes then components page.path.now ∷ changed_paths pages news else changed_paths pages news)
     either true rest =
-        AllPairs-cons R (path_components page.path) (changed_paths pages news)
-        (All-changed_paths (R (path_components page.path)) pages news
+        AllPairs-cons R (components page.path.now) (changed_paths pages news)
+        (All-changed_paths (R (components page.path.now)) pages news
         (λ k d l. each 0 (suc k) d (omega arith) (omega (arith, l)))) rest
     either false rest = rest
 
 -- what holds of each page that changes, by what holds of the page and its new page
 pub All-changed_pages : (P : List Step → Type 0) (R : SitePage → MovedSitePage → Type 0) (pages : List SitePage)
     (news : List MovedSitePage)
-    → ((page : SitePage) (new : MovedSitePage) → is_some new.text ≡ true → R page new → P (path_components page.path))
+    → ((page : SitePage) (new : MovedSitePage) → is_some new.text ≡ true → R page new → P (components page.path.now))
     → AllZip R pages news → All P (changed_paths pages news)
 All-changed_pages P R [] news of each = All-nil P
 All-changed_pages P R (page ∷ pages) [] of each = All-nil P
@@ -67,8 +66,8 @@ All-changed_pages P R (page ∷ pages) (new ∷ news) of each =
     either (is_some new.text) refl (All-changed_pages P R pages news of each.1)
   where
     either : (changes : Bool) → is_some new.text ≡ changes → All P (changed_paths pages news)
-        → All P (if changes then path_components page.path ∷ changed_paths pages news else changed_paths pages news)
-    either true is rest = All-cons P (path_components page.path) (changed_paths pages news) (of page new is each.0) rest
+        → All P (if changes then components page.path.now ∷ changed_paths pages news else changed_paths pages news)
+    either true is rest = All-cons P (components page.path.now) (changed_paths pages news) (of page new is each.0) rest
     either false is rest = rest
 
 -- no two pages that change are at one place
@@ -94,15 +93,15 @@ AreDistinct-changed_paths pages news distinct = λ k l. record {
 file_there : (entries : List Entry) (cs : List Step) → LeadsToFile entries cs → ¬ IsNoneAt (entry_paths entries) cs
 file_there entries cs is none =
     let (j, entry, j_in, here, at) = is.file in
-    let long_entries = length-map entries (λ (entry : Entry). path_components entry.path) in
-    let there : path_at (entry_paths entries) j ≡ path_components entry.path =
-    get_or-map (λ (entry : Entry). path_components entry.path) entries j entry [] j_in
-    ∙ ap (λ (entry : Entry). path_components entry.path) here in
+    let long_entries = length-map entries (λ (entry : Entry). components entry.path) in
+    let there : path_at (entry_paths entries) j ≡ components entry.path =
+    get_or-map (λ (entry : Entry). components entry.path) entries j entry [] j_in
+    ∙ ap (λ (entry : Entry). components entry.path) here in
     none j (omega (arith, j_in, long_entries))
     (subst (IsSame cs) (sym there) (IsSame-trans (IsSame-place is.leads) (IsSame-sym (IsSame-place at.leads))))
 
 pub LeaveFromEntries-whole : (entries : List Entry) (pages : List SitePage) (news : List MovedSitePage) (moves : List Move)
-    (rule : NameRule) → IsAccepted entries moves rule → IsWhole entries (page_paths pages)
+    (rule : NameRule) → AreAllowed entries moves rule → IsWhole entries (page_paths pages)
     → LeaveFromEntries (entry_paths entries) moves (changed_paths pages news)
 LeaveFromEntries-whole entries pages news moves rule accepted whole = record {
   apart = accepted.apart.come.leave.apart;

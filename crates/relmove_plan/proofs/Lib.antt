@@ -1,3 +1,4 @@
+pub mod RunWords
 pub mod RunsLemmas
 pub mod PlacesLemmas
 pub mod WholeTreesLemmas
@@ -14,3 +15,15 @@ pub mod MadeLemmas
 pub mod EndsLemmas
 pub mod OpenLemmas
 pub mod PlannedLemmas
+pub mod LeadToLemmas
+pub mod TreeRenamesLemmas
+pub mod TreeAddsLemmas
+pub mod TreeRemovesLemmas
+pub mod TreeStagesLemmas
+pub mod NewTextsLemmas
+pub mod MovedTreesLemmas
+pub mod WholeRunsLemmas
+pub mod UnreadLemmas
+pub mod EmptiedLemmas
+pub mod RunsOnLemmas
+pub mod ForCallers

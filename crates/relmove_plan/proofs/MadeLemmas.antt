@@ -6,21 +6,21 @@ use Rattle.std.proofs.lemmas.List.{get_or-map, length-map, map-append, take_at, 
 use Rattle.std.proofs.lemmas.List.Elements.{All-tail, All-take}
 use Rattle.std.proofs.lemmas.Slice.Zip.{get_or-zip}
 use Rattle.relative_path.specs.Steps.{Step, name, components, slash}
-use Rattle.relative_path.specs.RelativePath.{path_components}
 use Rattle.relative_path.specs.Walk.{place_of}
 use Rattle.relative_path.specs.Normalizing.{IsNormalTextOf}
 use Rattle.relative_path.proofs.ForCallers.{IsSame-place, IsSame-sym, IsSame-trans, components-place, walk-names}
 use Rattle.relative_path_moves.specs.Moves.{Move, move_at}
 use Rattle.relative_path_places.specs.PlaceIndex.{IsNoneAt}
-use Rattle.relative_path_moves.specs.TreeMoves.{AtTreePath, IsTreeTarget, TakesAlong}
+use Rattle.relative_path_moves.specs.TreeMoves.{AtTreePath, IsTreePath, TakesAlong}
 use Rattle.relmove_checks.specs.declared.entry.Entry.{Entry}
 use Rattle.relmove_checks.specs.declared.name_rule.NameRule.{NameRule}
 use Rattle.relmove_checks.specs.Moves.{move_of}
 use Rattle.relmove_checks.specs.Trees.{HasAt, is_file}
-use Rattle.relmove_steps.specs.Directories.{AreMade, IsMissingText, IsTakenTo, LeavesTo, LeaveToNames, moves_to_names}
-use Rattle.relmove_plan.specs.Runs.{names_of, carried, IsMadeFor, DirectoriesArrive}
-use Rattle.relmove_steps.specs.Steps.{StepTexts, names_left}
-use Rattle.relmove_plan.proofs.CarriedLemmas.{HasNoName, coming, is_own}
+use Rattle.relmove_steps.specs.Directories.{AreMade, IsMissingText, IsTextTakenTo, LeavesTo, LeaveToNames, moves_to_names}
+use Rattle.relmove_plan.specs.FileTrees.{names_of}
+use Rattle.relmove_plan.proofs.RunWords.{carried, IsMadeFor, DirectoriesArrive}
+use Rattle.relmove_steps.specs.Actions.{ActionTexts, names_left}
+use Rattle.relmove_plan.proofs.CarriedLemmas.{HasNoName, coming, is_reserved_text}
 use Rattle.relmove_plan.proofs.CarriedLemmas as carrying
 use Rattle.relmove_plan.proofs.ArrivalsLemmas as arrivals
 use Rattle.relmove_plan.proofs.ComingLemmas as coming_names
@@ -34,7 +34,7 @@ IsNormalTextOf-one : (cs : List Step) (one other : List ℕ) → IsNormalTextOf 
 IsNormalTextOf-one cs one other is is_2 = is_2.only one is.normal_text is.same
 
 -- the front of a list of names is a list of names
-front-names : (place : List (List ℕ)) (front rest : List Step) → map name place ≡ front ++ rest
+pub front-names : (place : List (List ℕ)) (front rest : List Step) → map name place ≡ front ++ rest
     → front ≡ map name (take (length front) place)
 front-names place front rest split =
     sym (take_at front rest (length front) refl) ∙ ap (take (length front)) (sym split)
@@ -84,14 +84,14 @@ pub record IsUnderNew (moves : List Move) (place : List (List ℕ)) (j : ℕ) (b
   pub leads : place_of (move_at moves j).new ≡ Some top
   pub down : place ≡ top ++ below
 
--- before the renames of `together`, what comes to the place is there already, if no new path is there or above; or it is at
+-- before the renames of `placed`, what comes to the place is there already, if no new path is there or above; or it is at
 -- the name to which the move with the nearest such path leaves, or below it
-pub data IsMadeFrom (moves : List Move) (between : List (List ℕ)) (place made : List (List ℕ)) : Type 0 where
+pub data IsMadeFrom (moves : List Move) (staging : List (List ℕ)) (place made : List (List ℕ)) : Type 0 where
   from_place : ((j : ℕ) (below : List (List ℕ)) → ¬ IsUnderNew moves place j below) → made ≡ place
-      → IsMadeFrom moves between place made
+      → IsMadeFrom moves staging place made
   from_name : (j : ℕ) (below : List (List ℕ)) → IsUnderNew moves place j below
       → ((k : ℕ) (others : List (List ℕ)) → IsUnderNew moves place k others → length below ≤ length others)
-      → made ≡ get_or between j [] ∷ below → IsMadeFrom moves between place made
+      → made ≡ get_or staging j [] ∷ below → IsMadeFrom moves staging place made
 
 -- the directory of the text is above the new path of a move, and none of the paths after the moves leads there
 pub record IsMissingAt (moves : List Move) (after : List (List Step)) (text : List ℕ) : Type 0 where
@@ -105,19 +105,19 @@ pub record IsMissingAt (moves : List Move) (after : List (List Step)) (text : Li
   pub new : place_of (move_at moves move).new ≡ Some (place ++ rest)
   pub some : place ≢ []
   pub some_rest : rest ≢ []
-  pub fine : arrivals.NotOwn place
+  pub fine : arrivals.NotReserved place
   pub none : IsNoneAt after (map name place)
 
-module _ {entries : List Entry} {pages changed : List (List Step)} {moves : List Move} {rule : NameRule} {steps : StepTexts}
-    (run : IsKnownRun entries pages changed moves rule steps)
+module _ {entries : List Entry} {pages changed : List (List Step)} {moves : List Move} {rule : NameRule} {actions : ActionTexts}
+    (run : IsKnownRun entries pages changed moves rule actions)
   where
     -- ---- what leaves to a name, and what comes from there
 
     -- what leaves from the old path of a move comes to its new path, or a page that changes is there
-    comes-move : (k : ℕ) → k < length moves → (between : List ℕ) → LeavesTo steps (move_at moves k).old between
-        → ((to : List ℕ) × IsNormalTextOf (move_at moves k).new to × Contains steps.together (between, to))
+    comes-move : (k : ℕ) → k < length moves → (staging : List ℕ) → LeavesTo actions (move_at moves k).old staging
+        → ((to : List ℕ) × IsNormalTextOf (move_at moves k).new to × Contains actions.placed (staging, to))
         ⊎ (¬ IsNoneAt changed (move_at moves k).old)
-    comes-move k within between (old, is, leaves) =
+    comes-move k within staging (old, is, leaves) =
         let (b, place, leads, at) =
         IsThere-place entries pages run.whole (move_at moves k).old (run.accepted.apart.come.leave.olds k within).there in
         elim (coming_names.changed_or run b place at) [
@@ -126,17 +126,17 @@ module _ {entries : List Entry} {pages changed : List (List Step)} {moves : List
         ]
       where
         carries-to : IsNoneAt changed (move_at moves k).old
-            → (to : List ℕ) × IsNormalTextOf (move_at moves k).new to × Contains steps.together (between, to)
+            → (to : List ℕ) × IsNormalTextOf (move_at moves k).new to × Contains actions.placed (staging, to)
         carries-to none =
             let carries = (run.moved k within).carries none in
-            let same : carries.carries.between ≡ between =
-            coming_names.left_one run old carries.carries.between between
-            (subst (λ from. Contains steps.apart (from, carries.carries.between))
+            let same : carries.carries.staging ≡ staging =
+            coming_names.left_one run old carries.carries.staging staging
+            (subst (λ from. Contains actions.staged (from, carries.carries.staging))
             (IsNormalTextOf-one (move_at moves k).old carries.old old carries.old_of is) carries.carries.leaves)
             leaves in (
               carries.new,
               carries.new_of,
-              subst (λ name. Contains steps.together (name, carries.new)) same carries.carries.comes,
+              subst (λ name. Contains actions.placed (name, carries.new)) same carries.carries.comes,
             )
 
     -- ---- directories above new paths
@@ -184,7 +184,7 @@ module _ {entries : List Entry} {pages changed : List (List Step)} {moves : List
         let file = run.files c [] l in
         let (e, entry, within_3, is, at) = file.file in
         let (target, target_is, arrives) =
-        AtTreePath-move j (path_components entry.path) file.place top within_2 at.leads
+        AtTreePath-move j (components entry.path) file.place top within_2 at.leads
         (same.everywhere [] ∙ file.leads) leads in
         no_file-above k within top below new some some_below (
           e,
@@ -218,48 +218,48 @@ module _ {entries : List Entry} {pages changed : List (List Step)} {moves : List
           new = new ∙ ap Some (sym (take-append-drop (length ds) top));
           some = λ none. above.some_front (names_are ∙ ap (map name) none);
           some_rest = λ none. above.some_rest (rest_is ∙ ap (map name) none);
-          fine = All-take (λ n. is_own n ≡ false) (length ds) top fine;
+          fine = All-take (λ n. is_reserved_text n ≡ false) (length ds) top fine;
           none = subst (IsNoneAt after) names_are missing.none;
         }
 
-    -- no name in between is at a missing directory or above it
+    -- no staging name is at a missing directory or above it
     pub HasNoName-missing : (after : List (List Step)) (text : List ℕ) (missing : IsMissingAt moves after text)
         → HasNoName entries missing.place
     HasNoName-missing after text missing =
         subst (HasNoName entries) (append-nil missing.place)
-        (arrivals.HasNoName-own run missing.place [] missing.some missing.fine)
+        (arrivals.HasNoName-reserved run missing.place [] missing.some missing.fine)
 
-    module _ (after : List (List Step)) (between : List (List ℕ)) (leave : LeaveToNames moves between steps) where
+    module _ (after : List (List Step)) (staging : List (List ℕ)) (leave : LeaveToNames moves staging actions) where
       -- the name to which the old path of a move leaves is one name
       single_name : (j : ℕ) → j < length moves
-          → components (get_or between j []) ≡ name (get_or between j []) ∷ []
+          → components (get_or staging j []) ≡ name (get_or staging j []) ∷ []
       single_name j within =
           let (old, is, leaves) = leave.each j within in
-          let here : get_or (names_left steps) leaves.0 [] ≡ get_or between j [] =
-          get_or-map (λ (step : List ℕ × List ℕ). step.1) steps.apart leaves.0 (old, get_or between j []) [] leaves.1
+          let here : get_or (names_left actions) leaves.0 [] ≡ get_or staging j [] =
+          get_or-map (λ (step : List ℕ × List ℕ). step.1) actions.staged leaves.0 (old, get_or staging j []) [] leaves.1
           ∙ ap (λ (step : List ℕ × List ℕ). step.1) leaves.2 in
-          subst (λ between. components between ≡ name between ∷ []) here
+          subst (λ staging. components staging ≡ name staging ∷ []) here
           (run.single leaves.0 [] (rw length-map leaves.1))
 
       abbrev news : List Move
-      news = moves_to_names moves between
+      news = moves_to_names moves staging
 
       length-news : (j : ℕ) → j < length news → j < length moves
-      length-news j within = let w : j < length (zip moves between) = rw length-map at within in zip-left moves between j w
+      length-news j within = let w : j < length (zip moves staging) = rw length-map at within in zip-left moves staging j w
 
       length-news_all : (j : ℕ) → j < length moves → j < length news
-      length-news_all j within = rw length-map (zip-both moves between j within (rw leave.count within))
+      length-news_all j within = rw length-map (zip-both moves staging j within (rw leave.count within))
 
       -- a move from a new path to a name
       new_at : (j : ℕ) → j < length moves
-          → move_at news j ≡ move_of (move_at moves j).new (components (get_or between j []))
+          → move_at news j ≡ move_of (move_at moves j).new (components (get_or staging j []))
       new_at j within =
           let none : Move = record { old = []; new = [] } in
-          let within_2 : j < length between = rw leave.count within in
-          let pairs : get_or (zip moves between) j (none, []) ≡ (get_or moves j none, get_or between j []) =
-          get_or-zip moves between j (none, []) within within_2 in
-          get_or-map (λ (pair : Move × List ℕ). move_of pair.0.new (components pair.1)) (zip moves between) j (none, []) none
-          (zip-both moves between j within within_2)
+          let within_2 : j < length staging = rw leave.count within in
+          let pairs : get_or (zip moves staging) j (none, []) ≡ (get_or moves j none, get_or staging j []) =
+          get_or-zip moves staging j (none, []) within within_2 in
+          get_or-map (λ (pair : Move × List ℕ). move_of pair.0.new (components pair.1)) (zip moves staging) j (none, []) none
+          (zip-both moves staging j within within_2)
           ∙ ap (λ (pair : Move × List ℕ). move_of pair.0.new (components pair.1)) pairs
 
       -- the moves from the new paths to the names take along what is at the new paths and below them
@@ -284,11 +284,11 @@ module _ {entries : List Entry} {pages changed : List (List Step)} {moves : List
           }
 
       -- where a missing directory is made
-      pub made-from : (directory made : List ℕ) (missing : IsMissingAt moves after directory) → IsTakenTo news directory made
-          → IsMadeFrom moves between missing.place (names_of made)
+      pub made-from : (directory made : List ℕ) (missing : IsMissingAt moves after directory) → IsTextTakenTo news directory made
+          → IsMadeFrom moves staging missing.place (names_of made)
       made-from directory made missing (target, is, made_is) = by is
         where
-          by : IsTreeTarget news (components directory) target → IsMadeFrom moves between missing.place (names_of made)
+          by : IsTreePath news (components directory) target → IsMadeFrom moves staging missing.place (names_of made)
           by (inr (left, same)) =
               IsMadeFrom.from_place
               (λ j below under. left missing.place j below missing.leads (takes-new missing.place j below under))
@@ -297,7 +297,7 @@ module _ {entries : List Entry} {pages changed : List (List Step)} {moves : List
               let j = taken.move in
               let place_is : taken.place ≡ missing.place = some_of (sym taken.leads ∙ missing.leads) in
               let within : j < length moves = length-news j taken.nearest.takes.within in
-              let target_is : target ≡ map name (get_or between j [] ∷ taken.below) =
+              let target_is : target ≡ map name (get_or staging j [] ∷ taken.below) =
               taken.new ∙ ap (λ (move : Move). move.new ++ map name taken.below) (new_at j within)
               ∙ ap (λ cs. cs ++ map name taken.below) (single_name j within) in
               IsMadeFrom.from_name j taken.below
@@ -306,20 +306,20 @@ module _ {entries : List Entry} {pages changed : List (List Step)} {moves : List
               (λ k others under.
               taken.nearest.nearest k others
               (subst (λ place. TakesAlong news place k others) (sym place_is) (takes-new missing.place k others under)))
-              (names_of-normal target made (get_or between j [] ∷ taken.below) made_is
-              (ap place_of target_is ∙ walk-names [] (get_or between j [] ∷ taken.below)))
+              (names_of-normal target made (get_or staging j [] ∷ taken.below) made_is
+              (ap place_of target_is ∙ walk-names [] (get_or staging j [] ∷ taken.below)))
 
       -- a directory that is made there comes to the missing one
       pub carried-made : (directory : List ℕ) (missing : IsMissingAt moves after directory) (made : List (List ℕ))
-          → IsMadeFrom moves between missing.place made → carried (coming steps) made ≡ missing.place
+          → IsMadeFrom moves staging missing.place made → carried (coming actions) made ≡ missing.place
       carried-made directory missing made (IsMadeFrom.from_place none here) =
-          ap (carried (coming steps)) here
+          ap (carried (coming actions)) here
           ∙ carrying.carried-unmoved run missing.place (HasNoName-missing after directory missing)
       carried-made directory missing made (IsMadeFrom.from_name j below under nearest here) =
-          elim (comes-move j under.within (get_or between j []) (leave.each j under.within)) [
+          elim (comes-move j under.within (get_or staging j []) (leave.each j under.within)) [
             | inl (to, to_is, comes) ↦
-                ap (carried (coming steps)) here
-                ∙ carrying.carried-on run (get_or between j []) to below under.top comes
+                ap (carried (coming actions)) here
+                ∙ carrying.carried-on run (get_or staging j []) to below under.top comes
                 (names_of-normal (move_at moves j).new to under.top to_is under.leads)
                 (subst (HasNoName entries) under.down (HasNoName-missing after directory missing))
                 ∙ sym under.down
@@ -334,12 +334,12 @@ module _ {entries : List Entry} {pages changed : List (List Step)} {moves : List
           ]
 
       -- the directories that are made come to the missing ones
-      pub DirectoriesArrive-made : (made : List (List ℕ)) → AreMade moves between after made
-          → DirectoriesArrive moves after steps made
+      pub DirectoriesArrive-made : (made : List (List ℕ)) → AreMade moves staging after made
+          → DirectoriesArrive moves after actions made
       DirectoriesArrive-made made are = record {
         missing = are.taken.missing;
         are_missing = are.taken.are_missing;
-        arrive = AllZip-with (IsMissingText moves after) (IsTakenTo news) (IsMadeFor steps)
+        arrive = AllZip-with (IsMissingText moves after) (IsTextTakenTo news) (IsMadeFor actions)
             (λ directory made missing taken.
             let at = missing-at after directory missing in
             carried-made directory at (names_of made) (made-from directory made at taken) ∙ sym at.named)

@@ -1,4 +1,4 @@
--- A directory can be made where a run makes it, and each rename of `together` leads to where something can come.
+-- A directory can be made where a run makes it, and each rename of `placed` leads to where something can come.
 use Rattle.std.proofs.Common.{All, false, ◌≡◌, ◌≢◌, ◌⊎◌, ℕ, zero, suc, ◌<◌, ◌≤◌, ◌+◌, List, [], ◌∷◌, ◌++◌, Contains, Some, length, map, drop, take, get_or, inl, inr, refl, sym, ap, subst, ◌∙◌, append_assoc, append-nil, arith}
 use Rattle.std.specs.List.{Any, join_with_byte}
 use Rattle.std.proofs.Math.Seq.{drop-append_seam, take-append_seam}
@@ -7,25 +7,24 @@ use Rattle.std.proofs.lemmas.List.{get_or-drop, get_or-map, get_or-take, get_or_
 use Rattle.std.proofs.lemmas.List.Elements.{All-drop}
 use Rattle.std.proofs.lemmas.Slice.Zip.{AllZip-long}
 use Rattle.relative_path.specs.Steps.{Step, name, components, slash}
-use Rattle.relative_path.specs.RelativePath.{path_components}
 use Rattle.relative_path.specs.Walk.{place_of}
 use Rattle.relative_path.specs.Normalizing.{IsNormalTextOf}
 use Rattle.relative_path.proofs.ForCallers.{components-place, walk-names}
-use Rattle.relative_path_moves.specs.Moves.{Move, move_at}
+use Rattle.relative_path_moves.specs.Moves.{Move, move_at, turned}
 use Rattle.relative_path_places.specs.PlaceIndex.{IsNoneAt, path_at}
-use Rattle.relative_path_moves.specs.TreeMoves.{IsLeftInPlace, IsTreeTarget}
+use Rattle.relative_path_moves.specs.TreeMoves.{IsLeftInPlace, IsTreePath}
 use Rattle.relmove_checks.specs.declared.entry.Entry.{Entry}
 use Rattle.relmove_checks.specs.declared.name_rule.NameRule.{NameRule}
 use Rattle.relmove_checks.specs.Moves.{move_of}
-use Rattle.relmove_checks.specs.Refusals.{turned}
 use Rattle.relmove_checks.proofs.ForCallers.{AllZip-at}
-use Rattle.relmove_steps.specs.Directories.{HaveTextOf, IsMissing, IsMissingText, MakesMissing, moves_to_names}
+use Rattle.relmove_steps.specs.Directories.{IsMissing, IsMissingText, MakesMissing, moves_to_names}
 use Rattle.relmove_steps.specs.Directories as specs
-use Rattle.relmove_plan.specs.Runs.{names_of, rename_places, carried, renames_of, CanBeMade, CanCome, HasMadeDirectory, HasOldDirectory, IsOpen, IsThereAfter}
-use Rattle.relmove_steps.specs.Steps.{StepTexts}
+use Rattle.relmove_plan.specs.FileTrees.{IsUnder, names_of}
+use Rattle.relmove_plan.proofs.RunWords.{rename_places, carried, renames_of, CanBeMade, CanCome, HasMadeDirectory, HasOldDirectory, IsOpen, IsThereAfter}
+use Rattle.relmove_steps.specs.Actions.{ActionTexts}
 use Rattle.relmove_plan.specs.WholeTrees.{HasDirectoryAt, IsAt, LeadsToFile}
 use Rattle.relmove_plan.proofs.KnownRunsLemmas.{IsKnownRun}
-use Rattle.relmove_plan.proofs.CarriedLemmas.{HasNoName, coming, leaving}
+use Rattle.relmove_plan.proofs.CarriedLemmas.{coming, leaving}
 use Rattle.relmove_plan.proofs.CarriedLemmas as carrying
 use Rattle.relmove_plan.proofs.ArrivalsLemmas as arrivals
 use Rattle.relmove_plan.proofs.WaysLemmas.{renames-coming}
@@ -38,11 +37,11 @@ use Rattle.relmove_plan.proofs.MadeLemmas as directories
 use Rattle.relmove_plan.proofs.EndsLemmas.{IsDirectoryTo, takes-more}
 use Rattle.relmove_plan.proofs.EndsLemmas as ends
 use Rattle.relmove_plan.proofs.PlacesLemmas.{IsBelow-joined, names_of-normal}
-use Rattle.relmove_plan.proofs.RunsLemmas.{IsUnder, carried-append, carried-elsewhere, carried-still}
+use Rattle.relmove_plan.proofs.RunsLemmas.{carried-append, carried-elsewhere, carried-still}
 use Rattle.relmove_plan.proofs.SourcesLemmas.{IsThere-place, element, first_of}
 use Rattle.relmove_plan.proofs.WholeTreesLemmas.{HasDirectoryAt-above, IsAt-some, IsSame-one_place, last_view, not_empty, push_front, push_last, some_append, some_of}
 
-take-none : {X : Type 0} (xs : List X) → take 0 xs ≡ []
+pub take-none : {X : Type 0} (xs : List X) → take 0 xs ≡ []
 take-none [] = refl
 take-none (x ∷ xs) = refl
 
@@ -92,23 +91,23 @@ under-more moves place whole below rest j under is = record {
 }
 
 -- the directory that is missing where one is made
-record IsMadeAt (moves : List Move) (after : List (List Step)) (between missing : List (List ℕ)) (i : ℕ) (text : List ℕ)
+record IsMadeAt (moves : List Move) (after : List (List Step)) (staging missing : List (List ℕ)) (i : ℕ) (text : List ℕ)
     : Type 0 where
   pub directory : List ℕ
   pub inside : i < length missing
   pub is : get_or missing i directory ≡ directory
   pub at : IsMissingAt moves after directory
-  pub from : IsMadeFrom moves between at.place (names_of text)
+  pub from : IsMadeFrom moves staging at.place (names_of text)
 
-module _ {entries : List Entry} {pages changed : List (List Step)} {moves : List Move} {rule : NameRule} {steps : StepTexts}
-    (run : IsKnownRun entries pages changed moves rule steps) (made : List (List ℕ))
-    (makes : MakesMissing moves (map components run.accepted.apart.after) steps made)
+module _ {entries : List Entry} {pages changed : List (List Step)} {moves : List Move} {rule : NameRule} {actions : ActionTexts}
+    (run : IsKnownRun entries pages changed moves rule actions) (made : List (List ℕ))
+    (makes : MakesMissing moves (map components run.accepted.apart.after) actions made)
   where
     abbrev after : List (List Step)
     after = map components run.accepted.apart.after
 
-    abbrev between : List (List ℕ)
-    between = makes.between
+    abbrev staging : List (List ℕ)
+    staging = makes.staging
 
     abbrev missing : List (List ℕ)
     missing = makes.are_made.taken.missing
@@ -116,10 +115,11 @@ module _ {entries : List Entry} {pages changed : List (List Step)} {moves : List
     -- ---- what is made
 
     made-at : (i : ℕ) (text : List ℕ) → i < length made → get_or made i text ≡ text
-        → IsMadeAt moves after between missing i text
+        → IsMadeAt moves after staging missing i text
     made-at i text within is =
         let taken = makes.are_made.taken in
-        let long : length made ≡ length missing = AllZip-long (specs.IsTakenTo (moves_to_names moves between)) missing made taken.taken in
+        let long : length made ≡ length missing =
+        AllZip-long (specs.IsTextTakenTo (moves_to_names moves staging)) missing made taken.taken in
         let inside : i < length missing = omega (arith, within, long) in
         let (directory, is_2) = element missing i inside in
         let at = directories.missing-at run after directory
@@ -129,22 +129,22 @@ module _ {entries : List Entry} {pages changed : List (List Step)} {moves : List
           inside = inside;
           is = is_2;
           at = at;
-          from = directories.made-from run after between makes.leave directory text at
-              (subst (λ directory. specs.IsTakenTo (moves_to_names moves between) directory text) is_2
-              (subst (specs.IsTakenTo (moves_to_names moves between) (get_or missing i directory)) is
-              (AllZip-at (specs.IsTakenTo (moves_to_names moves between)) missing made i directory text taken.taken inside)));
+          from = directories.made-from run after staging makes.leave directory text at
+              (subst (λ directory. specs.IsTextTakenTo (moves_to_names moves staging) directory text) is_2
+              (subst (specs.IsTextTakenTo (moves_to_names moves staging) (get_or missing i directory)) is
+              (AllZip-at (specs.IsTextTakenTo (moves_to_names moves staging)) missing made i directory text taken.taken inside)));
         }
 
     -- the missing directory with its number
-    directory-one : (i : ℕ) (text directory : List ℕ) (it : IsMadeAt moves after between missing i text)
+    directory-one : (i : ℕ) (text directory : List ℕ) (it : IsMadeAt moves after staging missing i text)
         → get_or missing i directory ≡ directory → it.directory ≡ directory
     directory-one i text directory it is = sym it.is ∙ get_or_default missing i it.directory directory it.inside ∙ is
 
     -- it comes to the missing directory
-    carried-missing : (i : ℕ) (text : List ℕ) (it : IsMadeAt moves after between missing i text)
-        → carried (coming steps) (names_of text) ≡ it.at.place
+    carried-missing : (i : ℕ) (text : List ℕ) (it : IsMadeAt moves after staging missing i text)
+        → carried (coming actions) (names_of text) ≡ it.at.place
     carried-missing i text it =
-        directories.carried-made run after between makes.leave it.directory it.at (names_of text) it.from
+        directories.carried-made run after staging makes.leave it.directory it.at (names_of text) it.from
 
     -- no entry comes to a missing directory
     none-comes : (directory : List ℕ) (at : IsMissingAt moves after directory) (g : ℕ) → g < length entries
@@ -186,12 +186,12 @@ module _ {entries : List Entry} {pages changed : List (List Step)} {moves : List
                   (ap (λ (move : Move). place_of move.old) (turned_at k within_2) ∙ leads_2);
             })
 
-    -- ---- where directories are before the renames of `together`
+    -- ---- where directories are before the renames of `placed`
 
     -- what is made in a directory is made where that one is
     front-made : (directory : List ℕ) (at : IsMissingAt moves after directory) (front : List (List ℕ)) (q : List ℕ)
-        → at.place ≡ front ++ q ∷ [] → (place top : List (List ℕ)) → IsMadeFrom moves between at.place place
-        → IsMadeFrom moves between front top → place ≡ top ++ q ∷ []
+        → at.place ≡ front ++ q ∷ [] → (place top : List (List ℕ)) → IsMadeFrom moves staging at.place place
+        → IsMadeFrom moves staging front top → place ≡ top ++ q ∷ []
     front-made directory at front q split place top (IsMadeFrom.from_place none here) (IsMadeFrom.from_place none_2 here_2) =
         here ∙ split ∙ ap (λ top. top ++ q ∷ []) (sym here_2)
     front-made directory at front q split place top (IsMadeFrom.from_place none here) (IsMadeFrom.from_name j below under nearest here_2) =
@@ -203,7 +203,7 @@ module _ {entries : List Entry} {pages changed : List (List Step)} {moves : List
         by first below_is under_2 from
       where
         by : (first : List (List ℕ)) → below ≡ first ++ q ∷ [] → (under_2 : IsUnderNew moves front j first)
-            → IsMadeFrom moves between front top → place ≡ top ++ q ∷ []
+            → IsMadeFrom moves staging front top → place ≡ top ++ q ∷ []
         by first below_is under_2 (IsMadeFrom.from_place none_2 here_2) = absurd (none_2 j first under_2)
         by first below_is under_2 (IsMadeFrom.from_name k rest under_3 nearest_2 here_2) =
             let less : length rest ≤ length first = nearest_2 j first under_2 in
@@ -215,14 +215,14 @@ module _ {entries : List Entry} {pages changed : List (List Step)} {moves : List
             let (tops, names) = one_front front under_2.top under_3.top first rest under_2.down under_3.down same in
             let one : j ≡ k =
             one_new j k under_3.top under_2.within under_3.within (under_2.leads ∙ ap Some tops) under_3.leads in
-            here ∙ ap (λ below. get_or between j [] ∷ below) below_is
-            ∙ ap (λ j. get_or between j [] ∷ first ++ q ∷ []) one
-            ∙ ap (λ first. get_or between k [] ∷ first ++ q ∷ []) names
+            here ∙ ap (λ below. get_or staging j [] ∷ below) below_is
+            ∙ ap (λ j. get_or staging j [] ∷ first ++ q ∷ []) one
+            ∙ ap (λ first. get_or staging k [] ∷ first ++ q ∷ []) names
             ∙ ap (λ top. top ++ q ∷ []) (sym here_2)
 
     -- what is made in the root comes to the root
     root-made : (directory : List ℕ) (at : IsMissingAt moves after directory) (q : List ℕ) → at.place ≡ q ∷ []
-        → (place : List (List ℕ)) → IsMadeFrom moves between at.place place → place ≡ q ∷ []
+        → (place : List (List ℕ)) → IsMadeFrom moves staging at.place place → place ≡ q ∷ []
     root-made directory at q is place (IsMadeFrom.from_place none here) = here ∙ is
     root-made directory at q is place (IsMadeFrom.from_name j below under nearest here) =
         let (top, leads, some, fine) = arrivals.new_place run j under.within in
@@ -235,17 +235,17 @@ module _ {entries : List Entry} {pages changed : List (List Step)} {moves : List
         empty [] none = refl
         empty (n ∷ below) none = absurd (omega (arith, none))
 
-    -- before the renames of `together` a thing is where it left to
+    -- before the renames of `placed` a thing is where it left to
     carried-zero : (start : List (List ℕ))
-        → carried (take (length steps.apart + 0) (renames_of steps)) start ≡ carried (leaving steps) start
+        → carried (take (length actions.staged + 0) (renames_of actions)) start ≡ carried (leaving actions) start
     carried-zero start =
-        ap (λ renames. carried renames start) (renames-coming steps 0)
-        ∙ carried-append (leaving steps) (take 0 (coming steps)) start
-        ∙ ap (λ renames. carried renames (carried (leaving steps) start)) (take-none (coming steps))
+        ap (λ renames. carried renames start) (renames-coming actions 0)
+        ∙ carried-append (leaving actions) (take 0 (coming actions)) start
+        ∙ ap (λ renames. carried renames (carried (leaving actions) start)) (take-none (coming actions))
 
     -- ---- directories above new paths
 
-    made-front : (i : ℕ) (text directory : List ℕ) (it : IsMadeAt moves after between missing i text)
+    made-front : (i : ℕ) (text directory : List ℕ) (it : IsMadeAt moves after staging missing i text)
         → get_or missing i directory ≡ directory → (front : List (List ℕ)) → IsNormalTextOf (map name front) directory
         → it.at.place ≡ front
     made-front i text directory it is front normal =
@@ -256,7 +256,7 @@ module _ {entries : List Entry} {pages changed : List (List Step)} {moves : List
     made-above : (k : ℕ) → k < length moves → (front rest : List (List ℕ))
         → place_of (move_at moves k).new ≡ Some (front ++ rest) → front ≢ [] → rest ≢ [] → IsNoneAt after (map name front)
         → (i : ℕ) × (text : List ℕ) × (i < length made) × (get_or made i text ≡ text)
-        × (it : IsMadeAt moves after between missing i text) × (it.at.place ≡ front)
+        × (it : IsMadeAt moves after staging missing i text) × (it.at.place ≡ front)
     made-above k within front rest new some some_rest none =
         let (normal, normal_is, above) = run.accepted.below_no_file k within in
         let is_missing : IsMissing moves after (map name front) =
@@ -277,7 +277,8 @@ module _ {entries : List Entry} {pages changed : List (List Step)} {moves : List
         } in
         let taken = makes.are_made.taken in
         let (directory, (i, inside, is), directory_is) = taken.are_missing.complete (map name front) is_missing in
-        let long : length made ≡ length missing = AllZip-long (specs.IsTakenTo (moves_to_names moves between)) missing made taken.taken in
+        let long : length made ≡ length missing =
+        AllZip-long (specs.IsTextTakenTo (moves_to_names moves staging)) missing made taken.taken in
         let within_2 : i < length made = omega (arith, inside, long) in
         let (text, text_is) = element made i within_2 in
         let it = made-at i text within_2 text_is in
@@ -286,8 +287,8 @@ module _ {entries : List Entry} {pages changed : List (List Step)} {moves : List
     -- ---- each directory can be made
 
     -- a directory is made after the one above it
-    made-before : (i j : ℕ) (text other : List ℕ) (it : IsMadeAt moves after between missing i text)
-        (above : IsMadeAt moves after between missing j other) (q : List ℕ) → it.at.place ≡ above.at.place ++ q ∷ [] → j < i
+    made-before : (i j : ℕ) (text other : List ℕ) (it : IsMadeAt moves after staging missing i text)
+        (above : IsMadeAt moves after staging missing j other) (q : List ℕ) → it.at.place ≡ above.at.place ++ q ∷ [] → j < i
     made-before i j text other it above q split = elim (cases_order j i) [
       | inl same ↦
           let directories_are : above.directory ≡ it.directory =
@@ -308,10 +309,10 @@ module _ {entries : List Entry} {pages changed : List (List Step)} {moves : List
     ]
 
     -- the directory in which another is made is there
-    held-made : (i : ℕ) (text : List ℕ) (it : IsMadeAt moves after between missing i text) → i < length made
+    held-made : (i : ℕ) (text : List ℕ) (it : IsMadeAt moves after staging missing i text) → i < length made
         → (front : List (List ℕ)) (q : List ℕ) → it.at.place ≡ front ++ q ∷ [] → front ≢ []
         → (top : List (List ℕ)) × (names_of text ≡ top ++ q ∷ [])
-        × (HasOldDirectory entries steps 0 top ⊎ HasMadeDirectory steps (take i made) 0 top)
+        × (HasOldDirectory entries actions 0 top ⊎ HasMadeDirectory actions (take i made) 0 top)
     held-made i text it within front q split some =
         by (ends.above-new run it.at.move it.at.within front (q ∷ it.at.rest) new some (not_empty [] q it.at.rest))
       where
@@ -320,11 +321,11 @@ module _ {entries : List Entry} {pages changed : List (List Step)} {moves : List
 
         by : IsNoneAt after (map name front) ⊎ IsDirectoryTo entries run.accepted.apart.after front
             → (top : List (List ℕ)) × (names_of text ≡ top ++ q ∷ [])
-            × (HasOldDirectory entries steps 0 top ⊎ HasMadeDirectory steps (take i made) 0 top)
+            × (HasOldDirectory entries actions 0 top ⊎ HasMadeDirectory actions (take i made) 0 top)
         by (inr to) = (
-          carried (leaving steps) to.start,
-          front-made it.directory it.at front q split (names_of text) (carried (leaving steps) to.start) it.from
-              (ends.from-directory run between makes.leave front to),
+          carried (leaving actions) to.start,
+          front-made it.directory it.at front q split (names_of text) (carried (leaving actions) to.start) it.from
+              (ends.from-directory run staging makes.leave front to),
           inl (to.start, (to.number, to.entry, to.within, to.is, to.at), carried-zero to.start),
         )
         by (inl none) =
@@ -334,51 +335,51 @@ module _ {entries : List Entry} {pages changed : List (List Step)} {moves : List
             let long : length (take i made) ≡ i = length-take-le i made (omega (arith, within)) in (
               names_of other,
               front-made it.directory it.at front q split (names_of text) (names_of other) it.from
-                  (subst (λ front. IsMadeFrom moves between front (names_of other)) place_is above.from),
+                  (subst (λ front. IsMadeFrom moves staging front (names_of other)) place_is above.from),
               inr (
                 j,
                 other,
                 omega (arith, less, long),
                 get_or-take i made j other less ∙ is,
-                ap (λ renames. carried renames (names_of other)) (take-none (coming steps)),
+                ap (λ renames. carried renames (names_of other)) (take-none (coming actions)),
               ),
             )
 
     -- nothing is where a directory is made
-    free-made : (i : ℕ) (text : List ℕ) (it : IsMadeAt moves after between missing i text)
-        → ¬ IsThereAfter entries steps (length steps.apart + 0) (names_of text)
+    free-made : (i : ℕ) (text : List ℕ) (it : IsMadeAt moves after staging missing i text)
+        → ¬ IsThereAfter entries actions (length actions.staged + 0) (names_of text)
     free-made i text it there =
-        let here : carried (leaving steps) there.start ≡ names_of text = sym (carried-zero there.start) ∙ there.now in
-        let comes : carried (renames_of steps) there.start ≡ it.at.place =
-        carrying.carried-in_turn run there.start ∙ ap (carried (coming steps)) here ∙ carried-missing i text it in
+        let here : carried (leaving actions) there.start ≡ names_of text = sym (carried-zero there.start) ∙ there.now in
+        let comes : carried (renames_of actions) there.start ≡ it.at.place =
+        carrying.carried-in_turn run there.start ∙ ap (carried (coming actions)) here ∙ carried-missing i text it in
         let of = ways.belongs run there.start it.at.place there.thing comes
         (directories.HasNoName-missing run after it.directory it.at) in
         none-comes it.directory it.at of.number of.within of.arrives
 
     -- two directories aren't made at one place
-    unmade-made : (i : ℕ) (text : List ℕ) (it : IsMadeAt moves after between missing i text) → i < length made
-        → ¬ HasMadeDirectory steps (take i made) 0 (names_of text)
+    unmade-made : (i : ℕ) (text : List ℕ) (it : IsMadeAt moves after staging missing i text) → i < length made
+        → ¬ HasMadeDirectory actions (take i made) 0 (names_of text)
     unmade-made i text it within (j, other, inside, is, same) =
         let long : length (take i made) ≡ i = length-take-le i made (omega (arith, within)) in
         let less : j < i = omega (arith, inside, long) in
         let above = made-at j other (omega (arith, less, within)) (sym (get_or-take i made j other less) ∙ is) in
         let names_are : names_of other ≡ names_of text =
-        sym (ap (λ renames. carried renames (names_of other)) (take-none (coming steps))) ∙ same in
+        sym (ap (λ renames. carried renames (names_of other)) (take-none (coming actions))) ∙ same in
         let place_is : above.at.place ≡ it.at.place =
-        sym (carried-missing j other above) ∙ ap (carried (coming steps)) names_are ∙ carried-missing i text it in
+        sym (carried-missing j other above) ∙ ap (carried (coming actions)) names_are ∙ carried-missing i text it in
         makes.are_made.taken.are_missing.different j i [] less it.inside
         (get_or_default missing j [] above.directory above.inside ∙ above.is ∙ above.at.spelled
         ∙ ap (join_with_byte slash) place_is
         ∙ sym (get_or_default missing i [] it.directory it.inside ∙ it.is ∙ it.at.spelled))
 
-    pub CanBeMade-made : CanBeMade entries steps made
+    pub CanBeMade-made : CanBeMade entries actions made
     CanBeMade-made i text within is = by (last_view it.at.place)
       where
-        it : IsMadeAt moves after between missing i text
+        it : IsMadeAt moves after staging missing i text
         it = made-at i text within is
 
         in_directory : (front : List (List ℕ)) (q : List ℕ) → it.at.place ≡ front ++ q ∷ []
-            → IsOpen entries steps (take i made) 0 (names_of text)
+            → IsOpen entries actions (take i made) 0 (names_of text)
         in_directory [] q split = record {
           directory = [];
           last = q;
@@ -399,22 +400,22 @@ module _ {entries : List Entry} {pages changed : List (List Step)} {moves : List
             }
 
         by : (it.at.place ≡ []) ⊎ ((front : List (List ℕ)) × (last : List ℕ) × (it.at.place ≡ front ++ last ∷ []))
-            → IsOpen entries steps (take i made) 0 (names_of text)
+            → IsOpen entries actions (take i made) 0 (names_of text)
         by (inl none) = absurd (it.at.some none)
         by (inr (front, q, split)) = in_directory front q split
 
-    -- ---- each rename of `together` leads to where something can come
+    -- ---- each rename of `placed` leads to where something can come
 
-    module _ (m : ℕ) (step : List ℕ × List ℕ) (within : m < length steps.together) (is : get_or steps.together m step ≡ step)
+    module _ (m : ℕ) (step : List ℕ × List ℕ) (within : m < length actions.placed) (is : get_or actions.placed m step ≡ step)
       where
-        before : (l : ℕ) × (other : List ℕ × List ℕ) × (l < length steps.apart) × (get_or steps.apart l other ≡ other)
+        before : (l : ℕ) × (other : List ℕ × List ℕ) × (l < length actions.staged) × (get_or actions.staged l other ≡ other)
             × (other.1 ≡ step.0)
         before = leaves.left_before run m step within is
 
-        leaves-to : Contains steps.apart (before.1.0, step.0)
+        leaves-to : Contains actions.staged (before.1.0, step.0)
         leaves-to =
             let (l, other, within_2, is_2, same) = before in
-            (l, within_2, subst (λ b. get_or steps.apart l (other.0, b) ≡ (other.0, b)) same is_2)
+            (l, within_2, subst (λ b. get_or actions.staged l (other.0, b) ≡ (other.0, b)) same is_2)
 
         to : IsDestination entries moves changed step.1
         to =
@@ -424,60 +425,60 @@ module _ {entries : List Entry} {pages changed : List (List Step)} {moves : List
         -- an entry comes to there
         comes-entry : (g : ℕ) × (g < length entries) × (place_of (components (get_or run.accepted.apart.after g [])) ≡ Some to.place)
         comes-entry =
-            let arrives : carried (renames_of steps) (names_of before.1.0) ≡ to.place =
+            let arrives : carried (renames_of actions) (names_of before.1.0) ≡ to.place =
             carrying.carried-from run before.1.0 step.1 to.place
-            (record { between = step.0; leaves = leaves-to; comes = (m, within, is) }) to.named to.ends in
+            (record { staging = step.0; leaves = leaves-to; comes = (m, within, is) }) to.named to.ends in
             let of = ways.belongs run (names_of before.1.0) to.place (leaves.IsThing-leaves run before.0 before.1 before.2 before.3)
             arrives to.ends in
             (of.number, of.within, of.arrives)
 
-        split-renames : take (length steps.apart + m) (renames_of steps) ++ drop m (coming steps) ≡ renames_of steps
+        split-renames : take (length actions.staged + m) (renames_of actions) ++ drop m (coming actions) ≡ renames_of actions
         split-renames =
-            ap (λ first. first ++ drop m (coming steps)) (renames-coming steps m)
-            ∙ append_assoc (leaving steps) (take m (coming steps)) (drop m (coming steps))
-            ∙ ap (λ rest. leaving steps ++ rest) (take-append-drop m (coming steps))
-            ∙ sym (map-append rename_places steps.apart steps.together)
+            ap (λ first. first ++ drop m (coming actions)) (renames-coming actions m)
+            ∙ append_assoc (leaving actions) (take m (coming actions)) (drop m (coming actions))
+            ∙ ap (λ rest. leaving actions ++ rest) (take-append-drop m (coming actions))
+            ∙ sym (map-append rename_places actions.staged actions.placed)
 
         module _ (front : List (List ℕ)) (q : List ℕ) (split : to.place ≡ front ++ q ∷ []) where
           -- no later rename leads to the directory above, or to above it
-          late : All (λ other. ¬ IsUnder front other.1) (drop m (coming steps))
+          late : All (λ other. ¬ IsUnder front other.1) (drop m (coming actions))
           late j d inside (below, under) = by j (third j within_2) refl
             where
-              within_2 : m + j < length steps.together
+              within_2 : m + j < length actions.placed
               within_2 =
-                  let long = length-drop m (coming steps) in
-                  let count = length-map steps.together rename_places in
+                  let long = length-drop m (coming actions) in
+                  let count = length-map actions.placed rename_places in
                   omega (arith, inside, long, count, within)
 
-              third : (j : ℕ) → m + j < length steps.together
-                  → (other : List ℕ × List ℕ) × (get_or steps.together (m + j) other ≡ other)
-              third j within_3 = element steps.together (m + j) within_3
+              third : (j : ℕ) → m + j < length actions.placed
+                  → (other : List ℕ × List ℕ) × (get_or actions.placed (m + j) other ≡ other)
+              third j within_3 = element actions.placed (m + j) within_3
 
-              here : (other : List ℕ × List ℕ) → get_or steps.together (m + j) other ≡ other
-                  → get_or (drop m (coming steps)) j d ≡ rename_places other
+              here : (other : List ℕ × List ℕ) → get_or actions.placed (m + j) other ≡ other
+                  → get_or (drop m (coming actions)) j d ≡ rename_places other
               here other is_2 =
-                  get_or-drop m (coming steps) j d ∙ get_or-map rename_places steps.together (m + j) other d within_2
+                  get_or-drop m (coming actions) j d ∙ get_or-map rename_places actions.placed (m + j) other d within_2
                   ∙ ap rename_places is_2
 
-              by : (k : ℕ) → (other : List ℕ × List ℕ) × (get_or steps.together (m + j) other ≡ other) → k ≡ j → ⊥
+              by : (k : ℕ) → (other : List ℕ × List ℕ) × (get_or actions.placed (m + j) other ≡ other) → k ≡ j → ⊥
               by zero (other, is_2) same =
-                  let there : get_or steps.together m other ≡ step =
-                  get_or_default steps.together m other step within ∙ is in
+                  let there : get_or actions.placed m other ≡ step =
+                  get_or_default actions.placed m other step within ∙ is in
                   let same_2 : m + j ≡ m = omega (arith, same) in
                   let one : other ≡ step =
-                  sym is_2 ∙ ap (λ k. get_or steps.together k other) same_2 ∙ there in
-                  let long = ap length under ∙ length-append (get_or (drop m (coming steps)) j d).1 below in
+                  sym is_2 ∙ ap (λ k. get_or actions.placed k other) same_2 ∙ there in
+                  let long = ap length under ∙ length-append (get_or (drop m (coming actions)) j d).1 below in
                   let long_2 = ap length (ap (λ (other : List (List ℕ) × List (List ℕ)). other.1) (here other is_2)
                   ∙ ap (λ (other : List ℕ × List ℕ). names_of other.1) one ∙ to.named ∙ split)
                   ∙ length-append front (q ∷ []) in
                   absurd (omega (arith, long, long_2))
               by (suc k) (other, is_2) same = later other is_2 (omega (arith, same))
                 where
-                  later : (other : List ℕ × List ℕ) → get_or steps.together (m + j) other ≡ other → m < m + j → ⊥
+                  later : (other : List ℕ × List ℕ) → get_or actions.placed (m + j) other ≡ other → m < m + j → ⊥
                   later other is_2 less =
                       let (l, first, within_3, is_3, from_is) = leaves.left_before run (m + j) other within_2 is_2 in
-                      let leaves_to : Contains steps.apart (first.0, other.0) =
-                      (l, within_3, subst (λ b. get_or steps.apart l (first.0, b) ≡ (first.0, b)) from_is is_3) in
+                      let leaves_to : Contains actions.staged (first.0, other.0) =
+                      (l, within_3, subst (λ b. get_or actions.staged l (first.0, b) ≡ (first.0, b)) from_is is_3) in
                       let other_to = destinations.destination run first.0 other.0 other.1 (leaves.leaves run l first within_3 is_3)
                       leaves_to (m + j, within_2, is_2) in
                       let front_is : front ≡ other_to.place ++ below =
@@ -491,48 +492,48 @@ module _ {entries : List Entry} {pages changed : List (List Step)} {moves : List
                       let second : List ℕ × List ℕ → List ℕ = λ step. step.1 in
                       run.above_first m (m + j) less (rw length-map within_2) (
                         rest,
-                        get_or-map second steps.together m step [] within ∙ ap second is ∙ to.spelled
+                        get_or-map second actions.placed m step [] within ∙ ap second is ∙ to.spelled
                             ∙ ap (join_with_byte slash) place_is ∙ is_below
                             ∙ ap (λ top. top ++ slash ∷ rest)
-                            (sym (get_or-map second steps.together (m + j) other [] within_2 ∙ ap second is_2
+                            (sym (get_or-map second actions.placed (m + j) other [] within_2 ∙ ap second is_2
                             ∙ other_to.spelled)),
                       )
 
           -- so a directory of the tree that comes to the directory above is there
-          early-old : (start : List (List ℕ)) → HasDirectoryAt entries start → carried (renames_of steps) start ≡ front
-              → HasOldDirectory entries steps m front
+          early-old : (start : List (List ℕ)) → HasDirectoryAt entries start → carried (renames_of actions) start ≡ front
+              → HasOldDirectory entries actions m front
           early-old start at comes = (
             start,
             at,
-            carried-still (drop m (coming steps)) (carried (take (length steps.apart + m) (renames_of steps)) start) front late
-                (sym (carried-append (take (length steps.apart + m) (renames_of steps)) (drop m (coming steps)) start)
+            carried-still (drop m (coming actions)) (carried (take (length actions.staged + m) (renames_of actions)) start) front late
+                (sym (carried-append (take (length actions.staged + m) (renames_of actions)) (drop m (coming actions)) start)
                 ∙ ap (λ renames. carried renames start) split-renames ∙ comes),
           )
 
           -- and so is one that is made
           early-made : (i : ℕ) (text : List ℕ) → i < length made → get_or made i text ≡ text
-              → (it : IsMadeAt moves after between missing i text) → it.at.place ≡ front → HasMadeDirectory steps made m front
+              → (it : IsMadeAt moves after staging missing i text) → it.at.place ≡ front → HasMadeDirectory actions made m front
           early-made i text within_2 is_2 it place_is = (
             i,
             text,
             within_2,
             is_2,
-            carried-still (drop m (coming steps)) (carried (take m (coming steps)) (names_of text)) front late
-                (sym (carried-append (take m (coming steps)) (drop m (coming steps)) (names_of text))
-                ∙ ap (λ renames. carried renames (names_of text)) (take-append-drop m (coming steps))
+            carried-still (drop m (coming actions)) (carried (take m (coming actions)) (names_of text)) front late
+                (sym (carried-append (take m (coming actions)) (drop m (coming actions)) (names_of text))
+                ∙ ap (λ renames. carried renames (names_of text)) (take-append-drop m (coming actions))
                 ∙ carried-missing i text it ∙ place_is),
           )
 
           -- what is above the new path of a move is there
           held-move : front ≢ [] → (k : ℕ) → k < length moves → place_of (move_at moves k).new ≡ Some to.place
-              → HasOldDirectory entries steps m front ⊎ HasMadeDirectory steps made m front
+              → HasOldDirectory entries actions m front ⊎ HasMadeDirectory actions made m front
           held-move some k inside new = by (ends.above-new run k inside front (q ∷ []) new_2 some (not_empty [] q []))
             where
               new_2 : place_of (move_at moves k).new ≡ Some (front ++ q ∷ [])
               new_2 = new ∙ ap Some split
 
               by : IsNoneAt after (map name front) ⊎ IsDirectoryTo entries run.accepted.apart.after front
-                  → HasOldDirectory entries steps m front ⊎ HasMadeDirectory steps made m front
+                  → HasOldDirectory entries actions m front ⊎ HasMadeDirectory actions made m front
               by (inl none) =
                   let (i, text, within_2, is_2, it, place_is) =
                   made-above k inside front (q ∷ []) new_2 some (not_empty [] q []) none in
@@ -542,21 +543,21 @@ module _ {entries : List Entry} {pages changed : List (List Step)} {moves : List
 
           -- what is above the new path of a page is there
           held-page : front ≢ [] → (c : ℕ) → c < length changed → (target : List Step)
-              → IsTreeTarget moves (path_at changed c) target → place_of target ≡ Some to.place
-              → HasOldDirectory entries steps m front ⊎ HasMadeDirectory steps made m front
+              → IsTreePath moves (path_at changed c) target → place_of target ≡ Some to.place
+              → HasOldDirectory entries actions m front ⊎ HasMadeDirectory actions made m front
           held-page some c inside target (inr (left, same)) leads =
               let file = run.files c [] inside in
               let file_is : file.place ≡ front ++ q ∷ [] =
               some_of (sym file.leads ∙ sym (ap place_of same) ∙ leads) ∙ split in
               let (e, entry, within_2, is_2, at) = HasDirectoryAt-above entries pages run.whole false front q [] some
               (subst (λ place. Any (IsAt false place) entries) file_is file.file) in
-              let stays : IsLeftInPlace moves (path_components entry.path) =
+              let stays : IsLeftInPlace moves (components entry.path) =
               λ place k others leads_2 takes.
               left file.place k (others ++ q ∷ []) file.leads
               (takes-more moves place file.place (q ∷ []) others k takes
               (file_is ∙ ap (λ front. front ++ q ∷ []) (some_of (sym at.leads ∙ leads_2)))) in
               inl (early-old front (e, entry, within_2, is_2, at)
-              (ends.carried-directory run (path_components entry.path) (path_components entry.path) front front at.leads
+              (ends.carried-directory run (components entry.path) (components entry.path) front front at.leads
               (e, entry, within_2, is_2, at) (inr (stays, refl)) at.leads))
           held-page some c inside target (inl taken) leads = by (last_view taken.below)
             where
@@ -566,7 +567,7 @@ module _ {entries : List Entry} {pages changed : List (List Step)} {moves : List
               file : LeadsToFile entries (path_at changed c)
               file = run.files c [] inside
 
-              new : (top : List (List ℕ)) × (place_of (move_at moves j).new ≡ Some top) × (top ≢ []) × arrivals.NotOwn top
+              new : (top : List (List ℕ)) × (place_of (move_at moves j).new ≡ Some top) × (top ≢ []) × arrivals.NotReserved top
               new = arrivals.new_place run j taken.nearest.takes.within
 
               place_is : to.place ≡ new.0 ++ taken.below
@@ -575,7 +576,7 @@ module _ {entries : List Entry} {pages changed : List (List Step)} {moves : List
                   ∙ arrivals.place-below run (move_at moves j).new new.0 taken.below new.1)
 
               by : (taken.below ≡ []) ⊎ ((below : List (List ℕ)) × (last : List ℕ) × (taken.below ≡ below ++ last ∷ []))
-                  → HasOldDirectory entries steps m front ⊎ HasMadeDirectory steps made m front
+                  → HasOldDirectory entries actions m front ⊎ HasMadeDirectory actions made m front
               by (inl none) =
                   held-move some j taken.nearest.takes.within
                   (new.1 ∙ ap Some (sym (place_is ∙ ap (λ below. new.0 ++ below) none ∙ append-nil new.0)))
@@ -595,7 +596,7 @@ module _ {entries : List Entry} {pages changed : List (List Step)} {moves : List
                   HasDirectoryAt-above entries pages run.whole false (top ++ below) n [] (some_append top below some_top)
                   (subst (λ place. Any (IsAt false place) entries) file_is file.file) in
                   let long = ap length below_is ∙ length-append below (n ∷ []) in
-                  let target_is : IsTreeTarget moves (path_components entry.path) ((move_at moves j).new ++ map name below) =
+                  let target_is : IsTreePath moves (components entry.path) ((move_at moves j).new ++ map name below) =
                   inl (record {
                     place = top ++ below;
                     leads = at.leads;
@@ -618,15 +619,15 @@ module _ {entries : List Entry} {pages changed : List (List Step)} {moves : List
                     new = refl;
                   }) in
                   inl (early-old (top ++ below) (e, entry, within_2, is_2, at)
-                  (ends.carried-directory run (path_components entry.path) ((move_at moves j).new ++ map name below)
+                  (ends.carried-directory run (components entry.path) ((move_at moves j).new ++ map name below)
                   (top ++ below) front at.leads (e, entry, within_2, is_2, at) target_is
                   (arrivals.place-below run (move_at moves j).new new.0 below new.1 ∙ ap Some front_is)))
 
-          held : (front ≡ []) ⊎ (HasOldDirectory entries steps m front ⊎ HasMadeDirectory steps made m front)
+          held : (front ≡ []) ⊎ (HasOldDirectory entries actions m front ⊎ HasMadeDirectory actions made m front)
           held = by front refl
             where
               by : (place : List (List ℕ)) → front ≡ place
-                  → (front ≡ []) ⊎ (HasOldDirectory entries steps m front ⊎ HasMadeDirectory steps made m front)
+                  → (front ≡ []) ⊎ (HasOldDirectory entries actions m front ⊎ HasMadeDirectory actions made m front)
               by [] root = inl root
               by (n ∷ place) is_2 =
                   let some : front ≢ [] = λ none. not_empty [] n place (sym is_2 ∙ none) in
@@ -636,25 +637,25 @@ module _ {entries : List Entry} {pages changed : List (List Step)} {moves : List
                   ])
 
         -- no directory that was made is there
-        unmade : ¬ HasMadeDirectory steps made m (names_of step.1)
+        unmade : ¬ HasMadeDirectory actions made m (names_of step.1)
         unmade (i, text, within_2, is_2, there) =
             let it = made-at i text within_2 is_2 in
             let (g, inside, arrives) = comes-entry in
-            let stays : carried (drop m (coming steps)) to.place ≡ to.place =
-            carried-elsewhere (drop m (coming steps)) to.place
-            (All-drop (λ other. ¬ IsUnder to.place other.0) m (coming steps) (carrying.end_clear run to.place to.ends)) in
+            let stays : carried (drop m (coming actions)) to.place ≡ to.place =
+            carried-elsewhere (drop m (coming actions)) to.place
+            (All-drop (λ other. ¬ IsUnder to.place other.0) m (coming actions) (carrying.end_clear run to.place to.ends)) in
             let place_is : it.at.place ≡ to.place =
             sym (carried-missing i text it)
-            ∙ ap (λ renames. carried renames (names_of text)) (sym (take-append-drop m (coming steps)))
-            ∙ carried-append (take m (coming steps)) (drop m (coming steps)) (names_of text)
-            ∙ ap (carried (drop m (coming steps))) (there ∙ to.named) ∙ stays in
+            ∙ ap (λ renames. carried renames (names_of text)) (sym (take-append-drop m (coming actions)))
+            ∙ carried-append (take m (coming actions)) (drop m (coming actions)) (names_of text)
+            ∙ ap (carried (drop m (coming actions))) (there ∙ to.named) ∙ stays in
             none-comes it.directory it.at g inside (arrives ∙ ap Some (sym place_is))
 
-        open_at : IsOpen entries steps made m (names_of step.1)
+        open_at : IsOpen entries actions made m (names_of step.1)
         open_at = by (last_view to.place)
           where
             by : (to.place ≡ []) ⊎ ((front : List (List ℕ)) × (last : List ℕ) × (to.place ≡ front ++ last ∷ []))
-                → IsOpen entries steps made m (names_of step.1)
+                → IsOpen entries actions made m (names_of step.1)
             by (inl none) = absurd (to.some none)
             by (inr (front, q, split)) = record {
               directory = front;
@@ -665,5 +666,5 @@ module _ {entries : List Entry} {pages changed : List (List Step)} {moves : List
               unmade = unmade;
             }
 
-    pub CanCome-steps : CanCome entries steps made
-    CanCome-steps m step within is = open_at m step within is
+    pub CanCome-actions : CanCome entries actions made
+    CanCome-actions m step within is = open_at m step within is

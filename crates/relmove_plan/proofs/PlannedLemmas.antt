@@ -1,15 +1,13 @@
--- What the steps of a plan do to a whole tree, from what is known of the steps.
+-- What the actions of a plan do to a whole tree, from what is known of the actions.
 use Rattle.std.proofs.Common.{All, AllPairs, ◌≡◌, ◌≢◌, ℕ, ◌<◌, true, List, [], ◌∷◌, Option, Some, None, IfSome, is_some, String, Global, length, map, get_or, string_bytes, refl, sym, ap, subst, ◌∙◌, arith}
 use Rattle.std.specs.List.{AllZip}
 use Rattle.std.proofs.lemmas.Bool.{false≢true}
 use Rattle.std.proofs.lemmas.List.{get_or-map, length-map}
 use Rattle.std.proofs.lemmas.List.Elements.{All-head, All-tail}
-use Rattle.std.proofs.lemmas.Option.{IfSome_then}
 use Rattle.std.proofs.lemmas.Simd.{map-map}
 use Rattle.std.proofs.lemmas.Slice.Zip.{AllZip-long}
 use Rattle.relative_path.specs.Steps.{name, components}
 use Rattle.relative_path.specs.Normalizing.{IsNormalTextOf}
-use Rattle.relative_path.specs.RelativePath.{path_components}
 use Rattle.relative_path.specs.Walk.{IsSame}
 use Rattle.relative_path.proofs.ForCallers.{IsSame-sym, IsSame-trans}
 use Rattle.relative_path_links.specs.Site.{KeepTheirLinks}
@@ -19,27 +17,26 @@ use Rattle.relative_path_links.specs.declared.site.SitePage.{SitePage}
 use Rattle.relative_path_moves.specs.Moves.{Move, AreApart}
 use Rattle.relative_path_places.specs.PlaceIndex.{path_at}
 use Rattle.relative_path_moves.specs.TreeMoves.{AtTreePath}
-use Rattle.relative_path_moves.proofs.ForCallers.{IsTreeTarget-only}
+use Rattle.relative_path_moves.proofs.ForCallers.{IsTreePath-only}
 use Rattle.relmove_checks.specs.declared.entry.Entry.{Entry}
 use Rattle.relmove_checks.specs.declared.name_rule.NameRule.{NameRule}
 use Rattle.relmove_checks.specs.Moves.{EachMove}
-use Rattle.relmove_checks.specs.Plan.{IsAccepted}
+use Rattle.relmove_checks.specs.Plan.{AreAllowed}
 use Rattle.relmove_checks.specs.Trees.{AreAfter, entry_paths}
 use Rattle.relmove_checks.proofs.ForCallers.{AllZip-at}
-use Rattle.relmove_actions.specs.declared.steps.Steps.{Steps}
-use Rattle.relmove_steps.specs.BetweenNames.{AreFreeNames}
+use Rattle.relmove_actions.specs.declared.actions.Actions.{Actions}
+use Rattle.relmove_steps.specs.StagingNames.{AreFreeNames}
 use Rattle.relmove_steps.specs.NewFiles.{HaveOwnFiles, LeaveOnce}
 use Rattle.relmove_steps.specs.Pages.{changed_paths, page_paths}
 use Rattle.relmove_steps.specs.Directories.{MakesMissing}
-use Rattle.relmove_plan.specs.Runs.{CanBeMade, CanCome, DirectoriesArrive, EntriesArrive, NothingInTheWay, TextsArrive}
-use Rattle.relmove_steps.specs.Steps.{AboveFirst, BelowFirst, DoesMove, LosesNothing, OnlyTheseLeave, RemovesAt, ReplacesChanged, ReplacesPage, ReplacesPages, WritesPages, names_left, pages_written, rename_text, step_texts}
+use Rattle.relmove_plan.proofs.RunWords.{CanBeMade, CanCome, DirectoriesArrive, NothingInTheWay}
+use Rattle.relmove_steps.specs.Actions.{AboveFirst, BelowFirst, DoesMove, LosesNothing, OnlyTheseLeave, RemovesAt, ReplacesChanged, ReplacesPage, ReplacesPages, WritesPages, names_left, pages_written, rename_text, action_texts}
 use Rattle.relmove_plan.specs.WholeTrees.{IsWhole, LeadsToFile}
-use Rattle.relmove_plan.proofs.FreeWaysLemmas.{NothingInTheWay-steps}
+use Rattle.relmove_plan.proofs.FreeWaysLemmas.{NothingInTheWay-actions}
 use Rattle.relmove_plan.proofs.KnownRunsLemmas.{IsKnownRun, IsReplaced}
 use Rattle.relmove_plan.proofs.LeavingLemmas.{All-changed_pages, All-changed_paths, AreDistinct-changed_paths}
-use Rattle.relmove_plan.proofs.ArrivalsLemmas.{EntriesArrive-steps, TextArrives-page}
 use Rattle.relmove_plan.proofs.MadeLemmas.{DirectoriesArrive-made}
-use Rattle.relmove_plan.proofs.OpenLemmas.{CanBeMade-made, CanCome-steps}
+use Rattle.relmove_plan.proofs.OpenLemmas.{CanBeMade-made, CanCome-actions}
 use Rattle.relmove_steps.proofs.ForCallers.{components-free}
 
 -- each entry has one path after the moves
@@ -54,45 +51,45 @@ AreAfter-only moves (entry ∷ entries) (x ∷ one) (y ∷ other) apart are are_
     let (target, target_is, normal) = are.0 in
     let (target_2, target_is_2, normal_2) = are_2.0 in
     let same : target_2 ≡ target =
-    IsTreeTarget-only moves (path_components entry.path) target target_2 apart target_is target_is_2 in
+    IsTreePath-only moves (components entry.path) target target_2 apart target_is target_is_2 in
     let normal_3 : IsNormalTextOf target y = subst (λ target. IsNormalTextOf target y) same normal_2 in
     ap (λ x. x ∷ one) (sym (normal.only y normal_3.normal_text normal_3.same))
     ∙ ap (λ rest. y ∷ rest) (AreAfter-only moves entries one other apart are.1 are_2.1)
 
--- what is known of a plan for a whole tree, and of its steps
+-- what is known of a plan for a whole tree, and of its actions
 pub record IsPlanned (entries : List Entry) (pages : List SitePage) (news : List MovedSitePage)
-    (finds : List ℕ → List Target → Type 0) (moves : List Move) (rule : NameRule) (steps : Steps) : Type 0 where
+    (finds : List ℕ → List Target → Type 0) (moves : List Move) (rule : NameRule) (actions : Actions) : Type 0 where
   pub whole : IsWhole entries (page_paths pages)
-  pub accepted : IsAccepted entries moves rule
+  pub accepted : AreAllowed entries moves rule
   pub links : KeepTheirLinks finds moves pages news
-  pub apart : BelowFirst (map (λ step. string_bytes step.from) steps.apart.items)
-  pub together : AboveFirst (map (λ step. string_bytes step.to) steps.together.items)
-  pub once : LeaveOnce (step_texts steps)
-  pub kept : LosesNothing (step_texts steps)
-  pub moved : EachMove (DoesMove (changed_paths pages news) (step_texts steps)) moves
-  pub replaced : ReplacesPages pages news (step_texts steps)
-  pub only : OnlyTheseLeave moves (changed_paths pages news) (step_texts steps)
-  pub names : AreFreeNames (entry_paths entries) (names_left (step_texts steps))
-  pub files : HaveOwnFiles (entry_paths entries) (changed_paths pages news) (step_texts steps)
-  pub removed : All (RemovesAt (step_texts steps)) (changed_paths pages news)
-  pub texts : WritesPages (changed_paths pages news) (step_texts steps)
+  pub staged : BelowFirst (map (λ step. string_bytes step.from) actions.staged.items)
+  pub placed : AboveFirst (map (λ step. string_bytes step.to) actions.placed.items)
+  pub once : LeaveOnce (action_texts actions)
+  pub kept : LosesNothing (action_texts actions)
+  pub moved : EachMove (DoesMove (changed_paths pages news) (action_texts actions)) moves
+  pub replaced : ReplacesPages pages news (action_texts actions)
+  pub only : OnlyTheseLeave moves (changed_paths pages news) (action_texts actions)
+  pub names : AreFreeNames (entry_paths entries) (names_left (action_texts actions))
+  pub files : HaveOwnFiles (entry_paths entries) (changed_paths pages news) (action_texts actions)
+  pub removed : All (RemovesAt (action_texts actions)) (changed_paths pages news)
+  pub texts : WritesPages (changed_paths pages news) (action_texts actions)
 
 module _ {entries : List Entry} {pages : List SitePage} {news : List MovedSitePage}
-    {finds : List ℕ → List Target → Type 0} {moves : List Move} {rule : NameRule} {steps : Steps}
-    (planned : IsPlanned entries pages news finds moves rule steps)
+    {finds : List ℕ → List Target → Type 0} {moves : List Move} {rule : NameRule} {actions : Actions}
+    (planned : IsPlanned entries pages news finds moves rule actions)
   where
     -- a page is a file of the tree, the moves take it to the path of its new page, and it is replaced if it changes
     abbrev IsKnownPage : SitePage → MovedSitePage → Type 0
     IsKnownPage page new =
-        LeadsToFile entries (path_components page.path)
-        × AtTreePath moves (path_components page.path) (λ now. IsNormalTextOf now new.path)
-        × ReplacesChanged (step_texts steps) page new
+        LeadsToFile entries (components page.path.now)
+        × AtTreePath moves (components page.path.now) (λ now. IsNormalTextOf now new.path)
+        × ReplacesChanged (action_texts actions) page new
 
     known_pages : AllZip IsKnownPage pages news
     known_pages = by pages news planned.whole.files planned.links planned.replaced
       where
         by : (pages : List SitePage) (news : List MovedSitePage) → All (LeadsToFile entries) (page_paths pages)
-            → KeepTheirLinks finds moves pages news → ReplacesPages pages news (step_texts steps)
+            → KeepTheirLinks finds moves pages news → ReplacesPages pages news (action_texts actions)
             → AllZip IsKnownPage pages news
         by [] [] files links replaced = tt
         by [] (new ∷ news) files links replaced = absurd links
@@ -100,59 +97,60 @@ module _ {entries : List Entry} {pages : List SitePage} {news : List MovedSitePa
         by (page ∷ pages) (new ∷ news) files links replaced =
             let (now, is, moved) = links.0 in (
               (
-                All-head (LeadsToFile entries) (path_components page.path) (page_paths pages) files,
+                All-head (LeadsToFile entries) (components page.path.now) (page_paths pages) files,
                 (now, is, moved.0),
                 replaced.0,
               ),
               by pages news
-                  (All-tail (LeadsToFile entries) (path_components page.path) (page_paths pages) files) links.1 replaced.1,
+                  (All-tail (LeadsToFile entries) (components page.path.now) (page_paths pages) files) links.1 replaced.1,
             )
 
     -- a page that changes is a file of the tree too
     changed_files : All (LeadsToFile entries) (changed_paths pages news)
     changed_files = All-changed_paths (LeadsToFile entries) pages news planned.whole.files
 
-    below_first : BelowFirst (map (λ step. step.0) (step_texts steps).apart)
-    below_first = subst BelowFirst (sym (map-map (λ (step : List ℕ × List ℕ). step.0) rename_text steps.apart.items)) planned.apart
+    below_first : BelowFirst (map (λ step. step.0) (action_texts actions).staged)
+    below_first =
+        subst BelowFirst (sym (map-map (λ (step : List ℕ × List ℕ). step.0) rename_text actions.staged.items)) planned.staged
 
-    single : All (λ between. components between ≡ name between ∷ []) (names_left (step_texts steps))
-    single = components-free (entry_paths entries) (names_left (step_texts steps)) planned.names
+    single : All (λ staging. components staging ≡ name staging ∷ []) (names_left (action_texts actions))
+    single = components-free (entry_paths entries) (names_left (action_texts actions)) planned.names
 
-    above_first : AboveFirst (map (λ step. step.1) (step_texts steps).together)
+    above_first : AboveFirst (map (λ step. step.1) (action_texts actions).placed)
     above_first =
-        subst AboveFirst (sym (map-map (λ (step : List ℕ × List ℕ). step.1) rename_text steps.together.items)) planned.together
+        subst AboveFirst (sym (map-map (λ (step : List ℕ × List ℕ). step.1) rename_text actions.placed.items)) planned.placed
 
     -- no page has two new texts
-    one_text : AllPairs (λ one other. one.0 ≢ other.0) (step_texts steps).texts
+    one_text : AllPairs (λ one other. one.0 ≢ other.0) (action_texts actions).texts
     one_text = λ i j d less within same.
-        let texts = (step_texts steps).texts in
+        let texts = (action_texts actions).texts in
         let paths = changed_paths pages news in
-        let long : length (pages_written (step_texts steps)) ≡ length paths =
-        AllZip-long IsNormalTextOf paths (pages_written (step_texts steps)) planned.texts in
+        let long : length (pages_written (action_texts actions)) ≡ length paths =
+        AllZip-long IsNormalTextOf paths (pages_written (action_texts actions)) planned.texts in
         let count = length-map texts (λ (new : List ℕ × List ℕ × List ℕ). new.0) in
         let within_2 : j < length paths = omega (arith, within, long, count) in
         let within_3 : i < length paths = omega (arith, less, within_2) in
         let one : IsNormalTextOf (path_at paths i) (get_or texts i d).0 =
         subst (IsNormalTextOf (path_at paths i))
         (get_or-map (λ (new : List ℕ × List ℕ × List ℕ). new.0) texts i d [] (omega (arith, less, within)))
-        (AllZip-at IsNormalTextOf paths (pages_written (step_texts steps)) i [] [] planned.texts within_3) in
+        (AllZip-at IsNormalTextOf paths (pages_written (action_texts actions)) i [] [] planned.texts within_3) in
         let two : IsNormalTextOf (path_at paths j) (get_or texts j d).0 =
         subst (IsNormalTextOf (path_at paths j))
         (get_or-map (λ (new : List ℕ × List ℕ × List ℕ). new.0) texts j d [] within)
-        (AllZip-at IsNormalTextOf paths (pages_written (step_texts steps)) j [] [] planned.texts within_2) in
+        (AllZip-at IsNormalTextOf paths (pages_written (action_texts actions)) j [] [] planned.texts within_2) in
         (AreDistinct-changed_paths pages news planned.whole.pages_distinct j within_2).first i less
         (IsSame-trans two.same (IsSame-sym (subst (λ text. IsSame (path_at paths i) (components text)) same one.same)))
 
     -- each page that changes is replaced
-    are_replaced : All (IsReplaced moves (step_texts steps)) (changed_paths pages news)
+    are_replaced : All (IsReplaced moves (action_texts actions)) (changed_paths pages news)
     are_replaced =
-        All-changed_pages (IsReplaced moves (step_texts steps)) IsKnownPage pages news
+        All-changed_pages (IsReplaced moves (action_texts actions)) IsKnownPage pages news
         (λ page new changes known. by page new new.text changes known.1 known.2) known_pages
       where
         by : (page : SitePage) (new : MovedSitePage) (text : Option (String Global)) → is_some text ≡ true
-            → AtTreePath moves (path_components page.path) (λ now. IsNormalTextOf now new.path)
-            → IfSome text (λ text. ReplacesPage (step_texts steps) page new (string_bytes text))
-            → IsReplaced moves (step_texts steps) (path_components page.path)
+            → AtTreePath moves (components page.path.now) (λ now. IsNormalTextOf now new.path)
+            → IfSome text (λ text. ReplacesPage (action_texts actions) page new (string_bytes text))
+            → IsReplaced moves (action_texts actions) (components page.path.now)
         by page new None changes goes replaces = absurd (false≢true changes)
         by page new (Some text) changes goes replaces = record {
           old = replaces.old;
@@ -165,7 +163,7 @@ module _ {entries : List Entry} {pages : List SitePage} {news : List MovedSitePa
           goes = goes;
         }
 
-    known : IsKnownRun entries (page_paths pages) (changed_paths pages news) moves rule (step_texts steps)
+    pub known : IsKnownRun entries (page_paths pages) (changed_paths pages news) moves rule (action_texts actions)
     known = record {
       whole = planned.whole;
       files = changed_files;
@@ -184,43 +182,26 @@ module _ {entries : List Entry} {pages : List SitePage} {news : List MovedSitePa
       one_text = one_text;
     }
 
-    -- ---- what the steps do to the tree
+    -- ---- what the actions do to the tree
 
-    pub EntriesArrive-plan : EntriesArrive moves entries (changed_paths pages news) (step_texts steps)
-    EntriesArrive-plan = EntriesArrive-steps known
-
-    pub TextsArrive-plan : TextsArrive moves pages news (step_texts steps)
-    TextsArrive-plan = by pages news known_pages
-      where
-        by : (pages : List SitePage) (news : List MovedSitePage) → AllZip IsKnownPage pages news
-            → TextsArrive moves pages news (step_texts steps)
-        by [] [] each = tt
-        by [] (new ∷ news) each = absurd each
-        by (page ∷ pages) [] each = absurd each
-        by (page ∷ pages) (new ∷ news) each = (
-          IfSome_then new.text each.0.2
-              (λ text. TextArrives-page known page new (string_bytes text) each.0.0 each.0.1),
-          by pages news each.1,
-        )
-
-    pub DirectoriesArrive-plan : (after made : List (List ℕ)) → MakesMissing moves (map components after) (step_texts steps) made
-        → DirectoriesArrive moves (map components after) (step_texts steps) made
+    pub DirectoriesArrive-plan : (after made : List (List ℕ)) → MakesMissing moves (map components after) (action_texts actions) made
+        → DirectoriesArrive moves (map components after) (action_texts actions) made
     DirectoriesArrive-plan after made makes =
-        DirectoriesArrive-made known (map components after) makes.between makes.leave made makes.are_made
+        DirectoriesArrive-made known (map components after) makes.staging makes.leave made makes.are_made
 
-    pub NothingInTheWay-plan : NothingInTheWay entries (step_texts steps)
-    NothingInTheWay-plan = NothingInTheWay-steps known
+    pub NothingInTheWay-plan : NothingInTheWay entries (action_texts actions)
+    NothingInTheWay-plan = NothingInTheWay-actions known
 
     -- ---- each directory can be made, and each rename leads to where something can come
 
     pub CanBeMade-plan : (made : List (List ℕ))
-        → MakesMissing moves (map components planned.accepted.apart.after) (step_texts steps) made
-        → CanBeMade entries (step_texts steps) made
+        → MakesMissing moves (map components planned.accepted.apart.after) (action_texts actions) made
+        → CanBeMade entries (action_texts actions) made
     unfolding known
     CanBeMade-plan made makes = CanBeMade-made known made makes
 
     pub CanCome-plan : (made : List (List ℕ))
-        → MakesMissing moves (map components planned.accepted.apart.after) (step_texts steps) made
-        → CanCome entries (step_texts steps) made
+        → MakesMissing moves (map components planned.accepted.apart.after) (action_texts actions) made
+        → CanCome entries (action_texts actions) made
     unfolding known
-    CanCome-plan made makes = CanCome-steps known made makes
+    CanCome-plan made makes = CanCome-actions known made makes

@@ -6,12 +6,10 @@ use Rattle.std.proofs.lemmas.List.Elements.{All-tail}
 use Rattle.std.proofs.lemmas.Slice.Eq.{bytes_eq-Decides, starts_is}
 use Rattle.std.specs.List.{starts_with}
 use Rattle.std.specs.Str.{bytes_eq}
-use Rattle.relmove_plan.specs.Runs.{renamed, carried}
+use Rattle.relmove_plan.specs.FileTrees.{IsUnder}
+use Rattle.relmove_plan.proofs.RunWords.{renamed, carried}
 
--- the place is this one or below it
-abbrev pub IsUnder : List (List ℕ) → List (List ℕ) → Type 0
-IsUnder place top = (below : List (List ℕ)) × (place ≡ top ++ below)
-
+-- the test says whether a place is under another
 pub starts : (place top : List (List ℕ)) → (starts_with bytes_eq place top ≡ true → place ≡ top ++ drop (length top) place)
     × ((rest : List (List ℕ)) → place ≡ top ++ rest → starts_with bytes_eq place top ≡ true)
 starts place top = starts_is bytes_eq-Decides place top (starts_with bytes_eq place top) refl
@@ -57,45 +55,45 @@ renamed-elsewhere from to place elsewhere = by (starts_with bytes_eq place from)
 
 -- ---- several renames
 
-pub carried-append : (steps more : List (List (List ℕ) × List (List ℕ))) (place : List (List ℕ))
-    → carried (steps ++ more) place ≡ carried more (carried steps place)
+pub carried-append : (actions more : List (List (List ℕ) × List (List ℕ))) (place : List (List ℕ))
+    → carried (actions ++ more) place ≡ carried more (carried actions place)
 carried-append [] more place = refl
-carried-append (step ∷ steps) more place = carried-append steps more (renamed step place)
+carried-append (step ∷ actions) more place = carried-append actions more (renamed step place)
 
-pub carried-elsewhere : (steps : List (List (List ℕ) × List (List ℕ))) (place : List (List ℕ))
-    → All (λ step. ¬ IsUnder place step.0) steps → carried steps place ≡ place
+pub carried-elsewhere : (actions : List (List (List ℕ) × List (List ℕ))) (place : List (List ℕ))
+    → All (λ step. ¬ IsUnder place step.0) actions → carried actions place ≡ place
 carried-elsewhere [] place elsewhere = refl
-carried-elsewhere (step ∷ steps) place elsewhere =
-    ap (carried steps) (renamed-elsewhere step.0 step.1 place (elsewhere zero step (omega arith)))
-    ∙ carried-elsewhere steps place
-    (All-tail (λ (step : List (List ℕ) × List (List ℕ)). ¬ IsUnder place step.0) step steps elsewhere)
+carried-elsewhere (step ∷ actions) place elsewhere =
+    ap (carried actions) (renamed-elsewhere step.0 step.1 place (elsewhere zero step (omega arith)))
+    ∙ carried-elsewhere actions place
+    (All-tail (λ (step : List (List ℕ) × List (List ℕ)). ¬ IsUnder place step.0) step actions elsewhere)
 
 -- the place is taken along by rename number i, by none before it, and by none after it
-pub carried-by : (steps : List (List (List ℕ) × List (List ℕ))) (i : ℕ) (d : List (List ℕ) × List (List ℕ))
-    (place below : List (List ℕ)) → i < length steps → place ≡ (get_or steps i d).0 ++ below
-    → ((j : ℕ) → j < i → ¬ IsUnder place (get_or steps j d).0)
-    → ((j : ℕ) → i < j → j < length steps → ¬ IsUnder ((get_or steps i d).1 ++ below) (get_or steps j d).0)
-    → carried steps place ≡ (get_or steps i d).1 ++ below
+pub carried-by : (actions : List (List (List ℕ) × List (List ℕ))) (i : ℕ) (d : List (List ℕ) × List (List ℕ))
+    (place below : List (List ℕ)) → i < length actions → place ≡ (get_or actions i d).0 ++ below
+    → ((j : ℕ) → j < i → ¬ IsUnder place (get_or actions j d).0)
+    → ((j : ℕ) → i < j → j < length actions → ¬ IsUnder ((get_or actions i d).1 ++ below) (get_or actions j d).0)
+    → carried actions place ≡ (get_or actions i d).1 ++ below
 carried-by [] i d place below within is before after = absurd (let w : i < 0 = within in omega (arith, w))
-carried-by (step ∷ steps) zero d place below within is before after =
-    ap (carried steps) (renamed-under step.0 step.1 place below is)
-    ∙ carried-elsewhere steps (step.1 ++ below)
+carried-by (step ∷ actions) zero d place below within is before after =
+    ap (carried actions) (renamed-under step.0 step.1 place below is)
+    ∙ carried-elsewhere actions (step.1 ++ below)
     (λ k e l.
-    subst (λ (other : List (List ℕ) × List (List ℕ)). ¬ IsUnder (step.1 ++ below) other.0) (get_or_default steps k d e l)
+    subst (λ (other : List (List ℕ) × List (List ℕ)). ¬ IsUnder (step.1 ++ below) other.0) (get_or_default actions k d e l)
     (after (suc k) (omega arith) (omega (arith, l))))
-carried-by (step ∷ steps) (suc i) d place below within is before after =
-    ap (carried steps) (renamed-elsewhere step.0 step.1 place (before zero (omega arith)))
-    ∙ carried-by steps i d place below (omega (arith, within)) is (λ j l. before (suc j) (omega (arith, l)))
+carried-by (step ∷ actions) (suc i) d place below within is before after =
+    ap (carried actions) (renamed-elsewhere step.0 step.1 place (before zero (omega arith)))
+    ∙ carried-by actions i d place below (omega (arith, within)) is (λ j l. before (suc j) (omega (arith, l)))
     (λ j l m. after (suc j) (omega (arith, l)) (omega (arith, m)))
 
 -- what comes to a place is there already, if no rename leads to there or to above
-pub carried-still : (steps : List (List (List ℕ) × List (List ℕ))) (place end : List (List ℕ))
-    → All (λ step. ¬ IsUnder end step.1) steps → carried steps place ≡ end → place ≡ end
+pub carried-still : (actions : List (List (List ℕ) × List (List ℕ))) (place end : List (List ℕ))
+    → All (λ step. ¬ IsUnder end step.1) actions → carried actions place ≡ end → place ≡ end
 carried-still [] place end none comes = comes
-carried-still (step ∷ steps) place end none comes =
+carried-still (step ∷ actions) place end none comes =
     by (under_or place step.0)
-    (carried-still steps (renamed step place) end
-    (All-tail (λ (step : List (List ℕ) × List (List ℕ)). ¬ IsUnder end step.1) step steps none) comes)
+    (carried-still actions (renamed step place) end
+    (All-tail (λ (step : List (List ℕ) × List (List ℕ)). ¬ IsUnder end step.1) step actions none) comes)
   where
     by : IsUnder place step.0 ⊎ (¬ IsUnder place step.0) → renamed step place ≡ end → place ≡ end
     by (inl (below, is)) there =

@@ -3,7 +3,6 @@ use Rattle.std.proofs.Common.{All, Bool, false, ◌≡◌, ◌≢◌, ℕ, zero,
 use Rattle.std.specs.List.{Any, join_with_byte}
 use Rattle.std.proofs.lemmas.List.{length-map, map-append}
 use Rattle.relative_path.specs.Steps.{Step, name, components, slash}
-use Rattle.relative_path.specs.RelativePath.{path_components}
 use Rattle.relative_path.specs.Walk.{IsSame, place_of}
 use Rattle.relative_path.specs.Normalizing.{IsNormalTextOf}
 use Rattle.relative_path.proofs.ForCallers.{components-place, kept-name, walk-names}
@@ -14,13 +13,12 @@ use Rattle.relative_path_moves.specs.TreeMoves.{TakesAlong}
 use Rattle.relmove_checks.specs.declared.entry.Entry.{Entry}
 use Rattle.relmove_checks.specs.Moves.{EachMove}
 use Rattle.relmove_checks.specs.Trees.{IsThere, IsOldFine, entry_paths, is_directory}
-use Rattle.relmove_steps.specs.BetweenNames.{numbered_name}
+use Rattle.relmove_steps.specs.StagingNames.{numbered_name}
 use Rattle.relmove_steps.specs.NewFiles.{HaveOwnFiles, IsNextTo}
-use Rattle.relmove_plan.specs.Runs.{names_of}
-use Rattle.relmove_steps.specs.Steps.{StepTexts, LeavesFrom, of_move, of_page, of_text, names_left}
+use Rattle.relmove_plan.specs.FileTrees.{IsUnder, names_of}
+use Rattle.relmove_steps.specs.Actions.{ActionTexts, LeavesFrom, of_move, of_page, of_text, names_left}
 use Rattle.relmove_plan.specs.WholeTrees.{IsAt, IsHeld, LeadsToFile, IsWhole}
 use Rattle.relmove_plan.proofs.PlacesLemmas.{joined-names, names_of-normal, names_of-names, spelled-place}
-use Rattle.relmove_plan.proofs.RunsLemmas.{IsUnder}
 use Rattle.relmove_plan.proofs.WholeTreesLemmas.{IsAt-some, IsNoneAt-under, IsSame-one_place, LeadsToFile-under, last_view, not_empty, path_at-entry, some_of}
 
 -- an element by its number
@@ -48,7 +46,7 @@ pub data IsFrom (entries : List Entry) (moves : List Move) (changed : List (List
   from_file : (k : ℕ) → k < length changed → (top : LeadsToFile entries (path_at changed k)) (front : List (List ℕ))
       (n last : List ℕ) → top.place ≡ front ++ last ∷ [] → place ≡ front ++ n ∷ []
       → IsNoneAt (entry_paths entries) (map name place)
-      → All (λ between. place ≢ between ∷ []) names → IsFrom entries moves changed names place
+      → All (λ staging. place ≢ staging ∷ []) names → IsFrom entries moves changed names place
 
 -- what is known of the path from which something leaves
 pub record IsSource (entries : List Entry) (moves : List Move) (changed : List (List Step)) (names : List (List ℕ))
@@ -65,10 +63,10 @@ module _ (entries : List Entry) (pages : List (List Step)) (whole : IsWhole entr
   pub IsThere-place : (cs : List Step) → IsThere entries cs
       → (b : Bool) × (place : List (List ℕ)) × (place_of cs ≡ Some place) × Any (IsAt b place) entries
   IsThere-place cs (e, first) =
-      let within : e < length entries = rw (length-map entries (λ (entry : Entry). path_components entry.path)) at first.within in
+      let within : e < length entries = rw (length-map entries (λ (entry : Entry). components entry.path)) at first.within in
       let (entry, is) = element entries e within in
       let held : IsHeld entries entry = subst (IsHeld entries) is (whole.held e entry within) in
-      let same : IsSame cs (path_components entry.path) =
+      let same : IsSame cs (components entry.path) =
       subst (IsSame cs) (path_at-entry entries e entry within is) first.same in (
         is_directory entry.kind,
         held.directory ++ held.name ∷ [],
@@ -77,15 +75,15 @@ module _ (entries : List Entry) (pages : List (List Step)) (whole : IsWhole entr
       )
 
   module _ (moves : List Move) (changed : List (List Step)) (files : All (LeadsToFile entries) changed)
-      (olds : EachMove (λ move. IsOldFine entries move.old) moves) (steps : StepTexts)
-      (own : HaveOwnFiles (entry_paths entries) changed steps)
+      (olds : EachMove (λ move. IsOldFine entries move.old) moves) (actions : ActionTexts)
+      (own : HaveOwnFiles (entry_paths entries) changed actions)
     where
       file_of : (k : ℕ) → k < length changed → LeadsToFile entries (path_at changed k)
       file_of k within = files k [] within
 
       IsSource-normal : (cs : List Step) (from : List ℕ) (place : List (List ℕ)) → IsNormalTextOf cs from
-          → place_of cs ≡ Some place → place ≢ [] → IsFrom entries moves changed (names_left steps) place
-          → IsSource entries moves changed (names_left steps) from
+          → place_of cs ≡ Some place → place ≢ [] → IsFrom entries moves changed (names_left actions) place
+          → IsSource entries moves changed (names_left actions) from
       IsSource-normal cs from place is leads some is_from = record {
         place = place;
         some = some;
@@ -96,8 +94,8 @@ module _ (entries : List Entry) (pages : List (List Step)) (whole : IsWhole entr
       }
 
       -- what leaves is known
-      pub IsSource-leaves : (from : List ℕ) → LeavesFrom moves changed steps.texts from
-          → IsSource entries moves changed (names_left steps) from
+      pub IsSource-leaves : (from : List ℕ) → LeavesFrom moves changed actions.texts from
+          → IsSource entries moves changed (names_left actions) from
       IsSource-leaves from (of_move k within is) =
           let (b, place, leads, at) = IsThere-place (move_at moves k).old (olds k within).there in
           IsSource-normal (move_at moves k).old from place is leads (IsAt-some entries pages whole b place at)
@@ -111,11 +109,11 @@ module _ (entries : List Entry) (pages : List (List Step)) (whole : IsWhole entr
           (own.unused j (old, from, text) less) (own.no_name j (old, from, text) less)
         where
           new : List ℕ × List ℕ × List ℕ
-          new = get_or steps.texts j (old, from, text)
+          new = get_or actions.texts j (old, from, text)
 
           by : (k : ℕ) × (k < length changed) × IsNormalTextOf (path_at changed k) new.0 → IsNextTo new.0 new.1
-              → IsNoneAt (entry_paths entries) (components new.1) → All (λ between. new.1 ≢ between) (names_left steps)
-              → IsSource entries moves changed (names_left steps) from
+              → IsNoneAt (entry_paths entries) (components new.1) → All (λ staging. new.1 ≢ staging) (names_left actions)
+              → IsSource entries moves changed (names_left actions) from
           by (k, within, is_page) next_to unused no_name =
               let top = file_of k within in
               elim (last_view top.place) [
@@ -135,7 +133,7 @@ module _ (entries : List Entry) (pages : List (List Step)) (whole : IsWhole entr
                     sym from_is ∙ joined-names new.1 place next_to.spelled file_is in
                     let none : IsNoneAt (entry_paths entries) (map name place) =
                     subst (IsNoneAt (entry_paths entries)) file_is unused in
-                    let no_name_2 : All (λ between. place ≢ between ∷ []) (names_left steps) =
+                    let no_name_2 : All (λ staging. place ≢ staging ∷ []) (names_left actions) =
                     λ j d l same. no_name j d l (from_is ∙ joined ∙ ap (join_with_byte slash) same) in
                     record {
                       place = place;
@@ -148,7 +146,7 @@ module _ (entries : List Entry) (pages : List (List Step)) (whole : IsWhole entr
               ]
 
       -- what takes an entry along that isn't a page that changes is a move
-      pub IsFrom-under : (b : Bool) (place top below : List (List ℕ)) → IsFrom entries moves changed (names_left steps) top
+      pub IsFrom-under : (b : Bool) (place top below : List (List ℕ)) → IsFrom entries moves changed (names_left actions) top
           → Any (IsAt b place) entries → IsNoneAt changed (map name place) → place ≡ top ++ below → top ≢ []
           → (k : ℕ) × TakesAlong moves place k below
       IsFrom-under b place top below (IsFrom.from_move k within leads) at other under some =
@@ -161,27 +159,27 @@ module _ (entries : List Entry) (pages : List (List Step)) (whole : IsWhole entr
           absurd (IsNoneAt-under entries pages whole (map name top) b place top none (walk-names [] top) some at (below, under))
 
       -- nothing leaves from below a name where no entry is, if the name isn't a new file's
-      pub IsFrom-apart : (between : List ℕ) (below top : List (List ℕ)) → IsFrom entries moves changed (names_left steps) top
-          → top ≢ [] → IsNoneAt (entry_paths entries) (map name (between ∷ [])) → Contains (names_left steps) between
-          → ¬ IsUnder (between ∷ below) top
-      IsFrom-apart between below top from some none (i, within, is) under = by top from some under
+      pub IsFrom-apart : (staging : List ℕ) (below top : List (List ℕ)) → IsFrom entries moves changed (names_left actions) top
+          → top ≢ [] → IsNoneAt (entry_paths entries) (map name (staging ∷ [])) → Contains (names_left actions) staging
+          → ¬ IsUnder (staging ∷ below) top
+      IsFrom-apart staging below top from some none (i, within, is) under = by top from some under
         where
-          no_entry : (b : Bool) (place : List (List ℕ)) → Any (IsAt b (between ∷ place)) entries → ⊥
+          no_entry : (b : Bool) (place : List (List ℕ)) → Any (IsAt b (staging ∷ place)) entries → ⊥
           no_entry b place at =
-              IsNoneAt-under entries pages whole (map name (between ∷ [])) b (between ∷ place) (between ∷ []) none
-              (walk-names [] (between ∷ [])) (not_empty [] between []) at (place, refl)
+              IsNoneAt-under entries pages whole (map name (staging ∷ [])) b (staging ∷ place) (staging ∷ []) none
+              (walk-names [] (staging ∷ [])) (not_empty [] staging []) at (place, refl)
 
-          begins : (top : List (List ℕ)) → top ≢ [] → IsUnder (between ∷ below) top
-              → (place : List (List ℕ)) × (top ≡ between ∷ place)
+          begins : (top : List (List ℕ)) → top ≢ [] → IsUnder (staging ∷ below) top
+              → (place : List (List ℕ)) × (top ≡ staging ∷ place)
           begins [] some under = absurd (some refl)
-          begins (n ∷ place) some under = (place, ap (λ first. first ∷ place) (sym (IsUnder-first between n below place under)))
+          begins (n ∷ place) some under = (place, ap (λ first. first ∷ place) (sym (IsUnder-first staging n below place under)))
 
-          by : (top : List (List ℕ)) → IsFrom entries moves changed (names_left steps) top → top ≢ []
-              → IsUnder (between ∷ below) top → ⊥
+          by : (top : List (List ℕ)) → IsFrom entries moves changed (names_left actions) top → top ≢ []
+              → IsUnder (staging ∷ below) top → ⊥
           by top (IsFrom.from_move k within leads) some under =
               let (b, place, leads_2, at) = IsThere-place (move_at moves k).old (olds k within).there in
               let (rest, is) = begins top some under in
-              let here : place ≡ between ∷ rest = some_of (sym leads_2 ∙ leads) ∙ is in
+              let here : place ≡ staging ∷ rest = some_of (sym leads_2 ∙ leads) ∙ is in
               no_entry b rest (subst (λ place. Any (IsAt b place) entries) here at)
           by top (IsFrom.from_page k within file same) some under =
               let (rest, is) = begins top some under in
@@ -191,9 +189,9 @@ module _ (entries : List Entry) (pages : List (List Step)) (whole : IsWhole entr
               next_to front split same rest (sym same ∙ is)
             where
               next_to : (front : List (List ℕ)) → top_file.place ≡ front ++ last ∷ [] → top ≡ front ++ n ∷ []
-                  → (rest : List (List ℕ)) → front ++ n ∷ [] ≡ between ∷ rest → ⊥
+                  → (rest : List (List ℕ)) → front ++ n ∷ [] ≡ staging ∷ rest → ⊥
               next_to [] split here rest is_2 =
-                  no_name i between within
+                  no_name i staging within
                   (here ∙ ap (λ first. first ∷ []) (ap (λ place. get_or place 0 n) is_2 ∙ sym is))
               next_to (d ∷ front) split here rest is =
                   no_entry false (front ++ last ∷ [])

@@ -1,4 +1,4 @@
--- Each rename leads from where something is, and each rename to a name in between leads to where nothing is.
+-- Each rename leads from where something is, and each rename to a staging name leads to where nothing is.
 use Rattle.std.proofs.Common.{All, Bool, false, ◌≡◌, ◌≢◌, ◌⊎◌, ℕ, ◌<◌, ◌≤◌, ◌+◌, List, [], ◌∷◌, ◌++◌, Contains, length, map, take, get_or, inl, inr, refl, sym, ap, subst, ◌∙◌, append-nil, arith}
 use Rattle.std.specs.List.{Any, join_with_byte}
 use Rattle.std.proofs.lemmas.List.{get_or-map, get_or-take, get_or_default, length-map, length-take-le, map-append, take-append-le, take_all}
@@ -10,54 +10,56 @@ use Rattle.relative_path_moves.specs.Moves.{Move, move_at}
 use Rattle.relative_path_places.specs.PlaceIndex.{path_at}
 use Rattle.relmove_checks.specs.declared.entry.Entry.{Entry}
 use Rattle.relmove_checks.specs.declared.name_rule.NameRule.{NameRule}
-use Rattle.relmove_plan.specs.Runs.{names_of, rename_places, carried, renames_of, IsThereAfter}
-use Rattle.relmove_steps.specs.Steps.{StepTexts, LeavesFrom, of_move, of_page, of_text, names_come, names_left}
+use Rattle.relmove_plan.specs.FileTrees.{IsUnder, names_of}
+use Rattle.relmove_plan.proofs.RunWords.{rename_places, carried, renames_of, IsThereAfter}
+use Rattle.relmove_steps.specs.Actions.{ActionTexts, LeavesFrom, of_move, of_page, of_text, names_come, names_left}
 use Rattle.relmove_plan.specs.WholeTrees.{IsAt}
-use Rattle.relmove_plan.proofs.CarriedLemmas.{HasNoName, coming, is_own, leaving}
+use Rattle.relmove_plan.proofs.CarriedLemmas.{HasNoName, coming, is_reserved_text, leaving}
 use Rattle.relmove_plan.proofs.CarriedLemmas as carrying
 use Rattle.relmove_plan.proofs.KnownRunsLemmas.{IsKnownRun}
 use Rattle.relmove_plan.proofs.FirstsLemmas.{FirstUnder, first_under, take-append_more}
 use Rattle.relmove_plan.proofs.PlacesLemmas.{names_of-normal}
-use Rattle.relmove_plan.proofs.RunsLemmas.{IsUnder, carried-append, carried-by, carried-elsewhere}
+use Rattle.relmove_plan.proofs.RunsLemmas.{carried-append, carried-by, carried-elsewhere}
 use Rattle.relmove_plan.proofs.SourcesLemmas.{IsThere-place, IsUnder-first, element}
 use Rattle.relmove_plan.proofs.WholeTreesLemmas.{IsNoneAt-under, not_empty}
 
 -- an entry is at the place before the run, or the place is a new file's
-abbrev pub IsThing : List Entry → StepTexts → List (List ℕ) → Type 0
-IsThing entries steps start =
-    ((b : Bool) × Any (IsAt b start) entries) ⊎ Any (λ new. names_of new.1 ≡ start) steps.texts
+abbrev pub IsThing : List Entry → ActionTexts → List (List ℕ) → Type 0
+IsThing entries actions start =
+    ((b : Bool) × Any (IsAt b start) entries) ⊎ Any (λ new. names_of new.1 ≡ start) actions.texts
 
--- the first renames are those to the names in between
-pub renames-leaving : (steps : StepTexts) (k : ℕ) → k ≤ length steps.apart → take k (renames_of steps) ≡ take k (leaving steps)
-renames-leaving steps k within =
-    ap (take k) (map-append rename_places steps.apart steps.together)
-    ∙ take-append-le k (leaving steps) (coming steps) (rw length-map within)
+-- the first renames are those to the staging names
+pub renames-leaving : (actions : ActionTexts) (k : ℕ) → k ≤ length actions.staged
+    → take k (renames_of actions) ≡ take k (leaving actions)
+renames-leaving actions k within =
+    ap (take k) (map-append rename_places actions.staged actions.placed)
+    ∙ take-append-le k (leaving actions) (coming actions) (rw length-map within)
 
--- those from the names in between come after them
-pub renames-coming : (steps : StepTexts) (m : ℕ)
-    → take (length steps.apart + m) (renames_of steps) ≡ leaving steps ++ take m (coming steps)
-renames-coming steps m =
-    ap (take (length steps.apart + m)) (map-append rename_places steps.apart steps.together)
-    ∙ ap (λ n. take (n + m) (leaving steps ++ coming steps)) (sym (length-map steps.apart rename_places))
-    ∙ take-append_more (leaving steps) (coming steps) m
+-- those from the staging names come after them
+pub renames-coming : (actions : ActionTexts) (m : ℕ)
+    → take (length actions.staged + m) (renames_of actions) ≡ leaving actions ++ take m (coming actions)
+renames-coming actions m =
+    ap (take (length actions.staged + m)) (map-append rename_places actions.staged actions.placed)
+    ∙ ap (λ n. take (n + m) (leaving actions ++ coming actions)) (sym (length-map actions.staged rename_places))
+    ∙ take-append_more (leaving actions) (coming actions) m
 
-module _ {entries : List Entry} {pages changed : List (List Step)} {moves : List Move} {rule : NameRule} {steps : StepTexts}
-    (run : IsKnownRun entries pages changed moves rule steps)
+module _ {entries : List Entry} {pages changed : List (List Step)} {moves : List Move} {rule : NameRule} {actions : ActionTexts}
+    (run : IsKnownRun entries pages changed moves rule actions)
   where
     -- ---- what leaves
 
     -- why something leaves the path from which this rename leads
-    pub leaves : (i : ℕ) (step : List ℕ × List ℕ) → i < length steps.apart → get_or steps.apart i step ≡ step
-        → LeavesFrom moves changed steps.texts step.0
+    pub leaves : (i : ℕ) (step : List ℕ × List ℕ) → i < length actions.staged → get_or actions.staged i step ≡ step
+        → LeavesFrom moves changed actions.texts step.0
     leaves i step within is =
-        subst (λ (step : List ℕ × List ℕ). LeavesFrom moves changed steps.texts step.0) is (run.only i step within)
+        subst (λ (step : List ℕ × List ℕ). LeavesFrom moves changed actions.texts step.0) is (run.only i step within)
 
     -- something is at the path from which something leaves
-    pub IsThing-leaves : (i : ℕ) (step : List ℕ × List ℕ) → i < length steps.apart → get_or steps.apart i step ≡ step
-        → IsThing entries steps (names_of step.0)
+    pub IsThing-leaves : (i : ℕ) (step : List ℕ × List ℕ) → i < length actions.staged → get_or actions.staged i step ≡ step
+        → IsThing entries actions (names_of step.0)
     IsThing-leaves i step within is = by (leaves i step within is)
       where
-        by : LeavesFrom moves changed steps.texts step.0 → IsThing entries steps (names_of step.0)
+        by : LeavesFrom moves changed actions.texts step.0 → IsThing entries actions (names_of step.0)
         by (of_move k inside normal) =
             let (b, place, leads, at) =
             IsThere-place entries pages run.whole (move_at moves k).old (run.accepted.apart.come.leave.olds k inside).there in
@@ -70,90 +72,90 @@ module _ {entries : List Entry} {pages changed : List (List Step)} {moves : List
             inl (false, subst (λ place. Any (IsAt false place) entries) here file.file)
         by (of_text old text (j, less, is_2)) = inr (j, (old, step.0, text), less, is_2, refl)
 
-    -- a rename to a name in between, as places
-    leaving_at : (i : ℕ) (step : List ℕ × List ℕ) (d : List (List ℕ) × List (List ℕ)) → i < length steps.apart
-        → get_or steps.apart i step ≡ step → get_or (leaving steps) i d ≡ rename_places step
-    leaving_at i step d within is = get_or-map rename_places steps.apart i step d within ∙ ap rename_places is
+    -- a rename to a staging name, as places
+    leaving_at : (i : ℕ) (step : List ℕ × List ℕ) (d : List (List ℕ) × List (List ℕ)) → i < length actions.staged
+        → get_or actions.staged i step ≡ step → get_or (leaving actions) i d ≡ rename_places step
+    leaving_at i step d within is = get_or-map rename_places actions.staged i step d within ∙ ap rename_places is
 
     -- the rename from a path is the first that takes along what is there
-    pub FirstUnder-leaves : (k i : ℕ) (step : List ℕ × List ℕ) → i < k → k ≤ length steps.apart
-        → get_or steps.apart i step ≡ step → FirstUnder (take k (leaving steps)) (names_of step.0)
+    pub FirstUnder-leaves : (k i : ℕ) (step : List ℕ × List ℕ) → i < k → k ≤ length actions.staged
+        → get_or actions.staged i step ≡ step → FirstUnder (take k (leaving actions)) (names_of step.0)
     FirstUnder-leaves k i step less fits is =
-        let within : i < length steps.apart = omega (arith, less, fits) in
-        let long : length (take k (leaving steps)) ≡ k = length-take-le k (leaving steps) (rw length-map fits) in
+        let within : i < length actions.staged = omega (arith, less, fits) in
+        let long : length (take k (leaving actions)) ≡ k = length-take-le k (leaving actions) (rw length-map fits) in
         record {
           number = i;
           step = rename_places step;
           below = [];
           within = omega (arith, less, long);
-          here = get_or-take k (leaving steps) i (rename_places step) less ∙ leaving_at i step (rename_places step) within is;
+          here = get_or-take k (leaving actions) i (rename_places step) less ∙ leaving_at i step (rename_places step) within is;
           under = sym (append-nil (names_of step.0));
           before = λ j d below.
               let less_2 : j < k = omega (arith, less, below) in
               subst (λ (other : List (List ℕ) × List (List ℕ)). ¬ IsUnder (names_of step.0) other.0)
-              (sym (get_or-take k (leaving steps) j d less_2))
-              (subst (λ (other : List (List ℕ) × List (List ℕ)). ¬ IsUnder other.0 (get_or (leaving steps) j d).0)
+              (sym (get_or-take k (leaving actions) j d less_2))
+              (subst (λ (other : List (List ℕ) × List (List ℕ)). ¬ IsUnder other.0 (get_or (leaving actions) j d).0)
               (leaving_at i step d within is) (carrying.order run j i d below (rw length-map within)));
         }
 
     -- none of the first renames leads from the path or from above it
-    pub elsewhere-leaves : (i : ℕ) (step : List ℕ × List ℕ) → i < length steps.apart → get_or steps.apart i step ≡ step
-        → All (λ other. ¬ IsUnder (names_of step.0) other.0) (take i (leaving steps))
+    pub elsewhere-leaves : (i : ℕ) (step : List ℕ × List ℕ) → i < length actions.staged → get_or actions.staged i step ≡ step
+        → All (λ other. ¬ IsUnder (names_of step.0) other.0) (take i (leaving actions))
     elsewhere-leaves i step within is j d inside =
-        let long : length (take i (leaving steps)) ≡ i =
-        length-take-le i (leaving steps) (rw length-map (omega (arith, within))) in
+        let long : length (take i (leaving actions)) ≡ i =
+        length-take-le i (leaving actions) (rw length-map (omega (arith, within))) in
         let less : j < i = omega (arith, inside, long) in
         subst (λ (other : List (List ℕ) × List (List ℕ)). ¬ IsUnder (names_of step.0) other.0)
-        (sym (get_or-take i (leaving steps) j d less))
-        (subst (λ (other : List (List ℕ) × List (List ℕ)). ¬ IsUnder other.0 (get_or (leaving steps) j d).0)
+        (sym (get_or-take i (leaving actions) j d less))
+        (subst (λ (other : List (List ℕ) × List (List ℕ)). ¬ IsUnder other.0 (get_or (leaving actions) j d).0)
         (leaving_at i step d within is) (carrying.order run j i d less (rw length-map within)))
 
-    -- what the first rename takes along comes to a name in between
-    pub carried-leaving : (k : ℕ) (place : List (List ℕ)) → k ≤ length steps.apart
-        → (first : FirstUnder (take k (leaving steps)) place)
-        → (step : List ℕ × List ℕ) × (first.number < k) × (get_or steps.apart first.number step ≡ step)
-        × (carried (take k (leaving steps)) place ≡ step.1 ∷ first.below)
+    -- what the first rename takes along comes to a staging name
+    pub carried-leaving : (k : ℕ) (place : List (List ℕ)) → k ≤ length actions.staged
+        → (first : FirstUnder (take k (leaving actions)) place)
+        → (step : List ℕ × List ℕ) × (first.number < k) × (get_or actions.staged first.number step ≡ step)
+        × (carried (take k (leaving actions)) place ≡ step.1 ∷ first.below)
     carried-leaving k place fits first =
         let i = first.number in
         let inside = first.within in
-        let long : length (take k (leaving steps)) ≡ k = length-take-le k (leaving steps) (rw length-map fits) in
+        let long : length (take k (leaving actions)) ≡ k = length-take-le k (leaving actions) (rw length-map fits) in
         let less : i < k = omega (arith, inside, long) in
-        let within : i < length steps.apart = omega (arith, less, fits) in
-        let (step, is) = element steps.apart i within in
-        let here : get_or (take k (leaving steps)) i first.step ≡ rename_places step =
-        get_or-take k (leaving steps) i first.step less ∙ leaving_at i step first.step within is in
+        let within : i < length actions.staged = omega (arith, less, fits) in
+        let (step, is) = element actions.staged i within in
+        let here : get_or (take k (leaving actions)) i first.step ≡ rename_places step =
+        get_or-take k (leaving actions) i first.step less ∙ leaving_at i step first.step within is in
         let one : first.step ≡ rename_places step = sym first.here ∙ here in (
           step,
           less,
           is,
-          carried-by (take k (leaving steps)) i first.step place first.below first.within
+          carried-by (take k (leaving actions)) i first.step place first.below first.within
               (first.under ∙ ap (λ (other : List (List ℕ) × List (List ℕ)). other.0 ++ first.below) (sym first.here))
               (λ j l. first.before j first.step l)
               (λ j l m.
               subst (λ (other : List (List ℕ) × List (List ℕ)). ¬ IsUnder (other.1 ++ first.below)
-              (get_or (take k (leaving steps)) j first.step).0) (sym here)
+              (get_or (take k (leaving actions)) j first.step).0) (sym here)
               (All-take (λ (other : List (List ℕ) × List (List ℕ)). ¬ IsUnder (names_of step.1 ++ first.below) other.0) k
-              (leaving steps) (carrying.clear run i step first.below within is) j first.step m))
+              (leaving actions) (carrying.clear run i step first.below within is) j first.step m))
               ∙ ap (λ (other : List (List ℕ) × List (List ℕ)). other.1 ++ first.below) here
               ∙ ap (λ top. top ++ first.below) (carrying.left_place run i step within is),
         )
 
-    -- what leaves comes to its name in between
-    pub carried-left : (i : ℕ) (step : List ℕ × List ℕ) → i < length steps.apart → get_or steps.apart i step ≡ step
-        → carried (leaving steps) (names_of step.0) ≡ step.1 ∷ []
+    -- what leaves comes to its staging name
+    pub carried-left : (i : ℕ) (step : List ℕ × List ℕ) → i < length actions.staged → get_or actions.staged i step ≡ step
+        → carried (leaving actions) (names_of step.0) ≡ step.1 ∷ []
     unfolding FirstUnder-leaves
     carried-left i step within is =
-        let first = FirstUnder-leaves (length steps.apart) i step within (omega arith) is in
-        let (one, less, is_one, comes) = carried-leaving (length steps.apart) (names_of step.0) (omega arith) first in
-        let step_is : one ≡ step = sym is_one ∙ get_or_default steps.apart i one step within ∙ is in
-        let all : take (length steps.apart) (leaving steps) ≡ leaving steps =
-        take_all (length steps.apart) (leaving steps) (rw length-map (omega arith)) in
+        let first = FirstUnder-leaves (length actions.staged) i step within (omega arith) is in
+        let (one, less, is_one, comes) = carried-leaving (length actions.staged) (names_of step.0) (omega arith) first in
+        let step_is : one ≡ step = sym is_one ∙ get_or_default actions.staged i one step within ∙ is in
+        let all : take (length actions.staged) (leaving actions) ≡ leaving actions =
+        take_all (length actions.staged) (leaving actions) (rw length-map (omega arith)) in
         ap (λ renames. carried renames (names_of step.0)) (sym all) ∙ comes
         ∙ ap (λ (step : List ℕ × List ℕ). step.1 ∷ []) step_is
 
-    -- nothing is at a name in between before the run
-    no_thing : (i : ℕ) (step : List ℕ × List ℕ) (place : List (List ℕ)) → i < length steps.apart
-        → get_or steps.apart i step ≡ step → IsThing entries steps place → place ≢ step.1 ∷ []
+    -- nothing is at a staging name before the run
+    no_thing : (i : ℕ) (step : List ℕ × List ℕ) (place : List (List ℕ)) → i < length actions.staged
+        → get_or actions.staged i step ≡ step → IsThing entries actions place → place ≢ step.1 ∷ []
     no_thing i step place within is (inl (b, at)) same =
         IsNoneAt-under entries pages run.whole (map name (step.1 ∷ [])) b place (step.1 ∷ [])
         (carrying.left_unused run i step within is)
@@ -165,79 +167,79 @@ module _ {entries : List Entry} {pages changed : List (List Step)} {moves : List
         (run.own.next_to t new inside).spelled
         ∙ ap (join_with_byte slash) (here ∙ same) ∙ sym (carrying.left_at run i step [] within is))
 
-    -- ---- the renames to names in between
+    -- ---- the renames to staging names
 
     -- something is where the rename leads from
-    pub IsThere-leaves : (i : ℕ) (step : List ℕ × List ℕ) → i < length steps.apart → get_or steps.apart i step ≡ step
-        → IsThereAfter entries steps i (names_of step.0)
+    pub IsThere-leaves : (i : ℕ) (step : List ℕ × List ℕ) → i < length actions.staged → get_or actions.staged i step ≡ step
+        → IsThereAfter entries actions i (names_of step.0)
     IsThere-leaves i step within is = record {
       start = names_of step.0;
       thing = IsThing-leaves i step within is;
-      now = ap (λ renames. carried renames (names_of step.0)) (renames-leaving steps i (omega (arith, within)))
-          ∙ carried-elsewhere (take i (leaving steps)) (names_of step.0) (elsewhere-leaves i step within is);
+      now = ap (λ renames. carried renames (names_of step.0)) (renames-leaving actions i (omega (arith, within)))
+          ∙ carried-elsewhere (take i (leaving actions)) (names_of step.0) (elsewhere-leaves i step within is);
     }
 
     -- nothing is where the rename leads to
-    pub IsFree-leaves : (i : ℕ) (step : List ℕ × List ℕ) → i < length steps.apart → get_or steps.apart i step ≡ step
-        → ¬ IsThereAfter entries steps i (names_of step.1)
-    IsFree-leaves i step within is there = by (first_under (take i (leaving steps)) there.start)
+    pub IsFree-leaves : (i : ℕ) (step : List ℕ × List ℕ) → i < length actions.staged → get_or actions.staged i step ≡ step
+        → ¬ IsThereAfter entries actions i (names_of step.1)
+    IsFree-leaves i step within is there = by (first_under (take i (leaving actions)) there.start)
       where
-        fits : i ≤ length steps.apart
+        fits : i ≤ length actions.staged
         fits = omega (arith, within)
 
-        now : carried (take i (leaving steps)) there.start ≡ step.1 ∷ []
-        now = ap (λ renames. carried renames there.start) (sym (renames-leaving steps i fits)) ∙ there.now
+        now : carried (take i (leaving actions)) there.start ≡ step.1 ∷ []
+        now = ap (λ renames. carried renames there.start) (sym (renames-leaving actions i fits)) ∙ there.now
             ∙ carrying.left_place run i step within is
 
-        by : All (λ other. ¬ IsUnder there.start other.0) (take i (leaving steps))
-            ⊎ FirstUnder (take i (leaving steps)) there.start → ⊥
+        by : All (λ other. ¬ IsUnder there.start other.0) (take i (leaving actions))
+            ⊎ FirstUnder (take i (leaving actions)) there.start → ⊥
         by (inl none) =
             no_thing i step there.start within is there.thing
-            (sym (carried-elsewhere (take i (leaving steps)) there.start none) ∙ now)
+            (sym (carried-elsewhere (take i (leaving actions)) there.start none) ∙ now)
         by (inr first) =
             let (other, less, is_2, comes) = carried-leaving i there.start fits first in
-            let within_2 : first.number < length steps.apart = omega (arith, less, within) in
+            let within_2 : first.number < length actions.staged = omega (arith, less, within) in
             let same : other.1 ≡ step.1 = ap (λ place. get_or place 0 other.1) (sym comes ∙ now) in
             run.names.different first.number i [] less (rw length-map within)
             (carrying.left_at run first.number other [] within_2 is_2 ∙ same ∙ sym (carrying.left_at run i step [] within is))
 
-    -- ---- the renames from names in between
+    -- ---- the renames from staging names
 
-    -- what comes from a name in between left to there
-    pub left_before : (k : ℕ) (step : List ℕ × List ℕ) → k < length steps.together → get_or steps.together k step ≡ step
-        → (i : ℕ) × (other : List ℕ × List ℕ) × (i < length steps.apart) × (get_or steps.apart i other ≡ other)
+    -- what comes from a staging name left to there
+    pub left_before : (k : ℕ) (step : List ℕ × List ℕ) → k < length actions.placed → get_or actions.placed k step ≡ step
+        → (i : ℕ) × (other : List ℕ × List ℕ) × (i < length actions.staged) × (get_or actions.staged i other ≡ other)
         × (other.1 ≡ step.0)
     left_before k step within is =
-        let come = names_come steps ++ steps.removed in
-        let all : All (Contains (names_left steps)) come =
-        All-permutation (Contains (names_left steps)) (names_left steps) come run.nothing_lost
-        (λ i d l. (i, l, get_or_default (names_left steps) i (get_or (names_left steps) i d) d l)) in
-        let (i, inside, here) = subst (Contains (names_left steps))
+        let come = names_come actions ++ actions.removed in
+        let all : All (Contains (names_left actions)) come =
+        All-permutation (Contains (names_left actions)) (names_left actions) come run.nothing_lost
+        (λ i d l. (i, l, get_or_default (names_left actions) i (get_or (names_left actions) i d) d l)) in
+        let (i, inside, here) = subst (Contains (names_left actions))
         (carrying.come_at run k step [] within is)
         (all k [] (carrying.inside run k within)) in
-        let inside_2 : i < length steps.apart = rw length-map at inside in
-        let (other, is_2) = element steps.apart i inside_2 in
+        let inside_2 : i < length actions.staged = rw length-map at inside in
+        let (other, is_2) = element actions.staged i inside_2 in
         (i, other, inside_2, is_2, sym (carrying.left_at run i other step.0 inside_2 is_2) ∙ here)
 
     -- before that rename, what left to there is still there
-    pub carried-before : (k i : ℕ) (step other : List ℕ × List ℕ) → k < length steps.together
-        → get_or steps.together k step ≡ step → i < length steps.apart → get_or steps.apart i other ≡ other
-        → other.1 ≡ step.0 → carried (take (length steps.apart + k) (renames_of steps)) (names_of other.0) ≡ names_of step.0
+    pub carried-before : (k i : ℕ) (step other : List ℕ × List ℕ) → k < length actions.placed
+        → get_or actions.placed k step ≡ step → i < length actions.staged → get_or actions.staged i other ≡ other
+        → other.1 ≡ step.0 → carried (take (length actions.staged + k) (renames_of actions)) (names_of other.0) ≡ names_of step.0
     carried-before k i step other within is within_2 is_2 same =
-        let here : carried (leaving steps) (names_of other.0) ≡ step.0 ∷ [] =
+        let here : carried (leaving actions) (names_of other.0) ≡ step.0 ∷ [] =
         carried-left i other within_2 is_2 ∙ ap (λ top. top ∷ []) same in
-        ap (λ renames. carried renames (names_of other.0)) (renames-coming steps k)
-        ∙ carried-append (leaving steps) (take k (coming steps)) (names_of other.0)
-        ∙ ap (carried (take k (coming steps))) here
-        ∙ carried-elsewhere (take k (coming steps)) (step.0 ∷ [])
+        ap (λ renames. carried renames (names_of other.0)) (renames-coming actions k)
+        ∙ carried-append (leaving actions) (take k (coming actions)) (names_of other.0)
+        ∙ ap (carried (take k (coming actions))) here
+        ∙ carried-elsewhere (take k (coming actions)) (step.0 ∷ [])
         (λ j d inside under.
-        let long : length (take k (coming steps)) ≡ k =
-        length-take-le k (coming steps) (rw length-map (omega (arith, within))) in
+        let long : length (take k (coming actions)) ≡ k =
+        length-take-le k (coming actions) (rw length-map (omega (arith, within))) in
         let less_2 : j < k = omega (arith, inside, long) in
-        let within_3 : j < length steps.together = omega (arith, less_2, within) in
-        let (third, is_3) = element steps.together j within_3 in
-        let there : get_or (take k (coming steps)) j d ≡ rename_places third =
-        get_or-take k (coming steps) j d less_2 ∙ get_or-map rename_places steps.together j third d within_3
+        let within_3 : j < length actions.placed = omega (arith, less_2, within) in
+        let (third, is_3) = element actions.placed j within_3 in
+        let there : get_or (take k (coming actions)) j d ≡ rename_places third =
+        get_or-take k (coming actions) j d less_2 ∙ get_or-map rename_places actions.placed j third d within_3
         ∙ ap rename_places is_3 in
         carrying.name_other run j k third step (λ equal. absurd (omega (arith, equal, less_2))) within_3 within is_3 is
         (sym (IsUnder-first step.0 third.0 [] []
@@ -246,8 +248,8 @@ module _ {entries : List Entry} {pages changed : List (List Step)} {moves : List
         ∙ sym (carrying.name_place run k step within is)
 
     -- something is where the rename leads from
-    pub IsThere-comes : (k : ℕ) (step : List ℕ × List ℕ) → k < length steps.together → get_or steps.together k step ≡ step
-        → IsThereAfter entries steps (length steps.apart + k) (names_of step.0)
+    pub IsThere-comes : (k : ℕ) (step : List ℕ × List ℕ) → k < length actions.placed → get_or actions.placed k step ≡ step
+        → IsThereAfter entries actions (length actions.staged + k) (names_of step.0)
     IsThere-comes k step within is =
         let (i, other, within_2, is_2, same) = left_before k step within is in
         record {

@@ -1,17 +1,16 @@
 -- Whole trees: what is above an entry is a directory of the tree.
-use Rattle.std.proofs.Common.{Bool, true, false, true≢false, ◌≡◌, ◌≢◌, ◌⊎◌, ℕ, zero, suc, ◌<◌, ◌≤◌, List, [], ◌∷◌, ◌++◌, Option, Some, length, drop, unwrap_or, get_or, inl, inr, refl, sym, ap, subst, ◌∙◌, append_assoc, append-nil, arith}
+use Rattle.std.proofs.Common.{Bool, true, false, true≢false, ◌≡◌, ◌≢◌, ◌⊎◌, ℕ, zero, suc, ◌<◌, ◌≤◌, List, [], ◌∷◌, ◌++◌, Option, Some, length, map, drop, unwrap_or, get_or, inl, inr, refl, sym, ap, subst, ◌∙◌, append_assoc, append-nil, arith}
 use Rattle.std.specs.List.{Any}
 use Rattle.std.proofs.lemmas.Bool.{cases_order}
 use Rattle.std.proofs.lemmas.List.{get_or-map, get_or_default, length-append, length-map}
-use Rattle.relative_path.specs.Steps.{Step}
-use Rattle.relative_path.specs.RelativePath.{path_components}
+use Rattle.relative_path.specs.Steps.{Step, components}
 use Rattle.relative_path.specs.Walk.{IsSame, place_of}
 use Rattle.relative_path.proofs.ForCallers.{IsSame-place, IsSame-sym, IsSame-trans}
 use Rattle.relative_path_places.specs.PlaceIndex.{IsNoneAt, path_at}
 use Rattle.relmove_checks.specs.declared.entry.Entry.{Entry}
 use Rattle.relmove_checks.specs.Trees.{entry_paths, is_directory}
+use Rattle.relmove_plan.specs.FileTrees.{IsUnder}
 use Rattle.relmove_plan.specs.WholeTrees.{IsAt, HasDirectoryAt, IsHeld, LeadsToFile, IsWhole}
-use Rattle.relmove_plan.proofs.RunsLemmas.{IsUnder}
 
 -- ---- lists of names from their end
 
@@ -50,6 +49,11 @@ pub some_append : {X : Type 0} (xs ys : List X) → xs ≢ [] → xs ++ ys ≢ [
 some_append [] ys some = absurd (some refl)
 some_append (x ∷ xs) ys some = not_empty [] x (xs ++ ys)
 
+-- what is mapped to an empty list is empty
+pub map_none : {X Y : Type 0} (f : X → Y) (xs : List X) → map f xs ≡ [] → xs ≡ []
+map_none f [] none = refl
+map_none f (x ∷ xs) none = cc none
+
 -- ---- entries at places
 
 pub some_of : {X : Type 0} {x y : X} → Some x ≡ Some y → x ≡ y
@@ -63,16 +67,16 @@ IsSame-one_place place one other = IsSame-trans (IsSame-place one) (IsSame-sym (
 module _ (entries : List Entry) where
   -- the path of an entry
   pub path_at-entry : (k : ℕ) (entry : Entry) → k < length entries → get_or entries k entry ≡ entry
-      → path_at (entry_paths entries) k ≡ path_components entry.path
+      → path_at (entry_paths entries) k ≡ components entry.path
   path_at-entry k entry within is =
-      get_or-map (λ (entry : Entry). path_components entry.path) entries k entry [] within
-      ∙ ap (λ (entry : Entry). path_components entry.path) is
+      get_or-map (λ (entry : Entry). components entry.path) entries k entry [] within
+      ∙ ap (λ (entry : Entry). components entry.path) is
 
   -- no entry is where nothing leads
   pub IsNoneAt-entry : (cs : List Step) (b : Bool) (place : List (List ℕ)) → IsNoneAt (entry_paths entries) cs
       → place_of cs ≡ Some place → Any (IsAt b place) entries → ⊥
   IsNoneAt-entry cs b place none leads (k, entry, within, is, at) =
-      none k (rw (length-map entries (λ (entry : Entry). path_components entry.path)) within)
+      none k (rw (length-map entries (λ (entry : Entry). components entry.path)) within)
       (subst (IsSame cs) (sym (path_at-entry k entry within is)) (IsSame-one_place place leads at.leads))
 
 module _ (entries : List Entry) (pages : List (List Step)) (whole : IsWhole entries pages) where
@@ -92,9 +96,9 @@ module _ (entries : List Entry) (pages : List (List Step)) (whole : IsWhole entr
     where
       apart : (k l : ℕ) (entry other : Entry) → k < l → k < length entries → l < length entries
           → get_or entries k entry ≡ entry → get_or entries l other ≡ other
-          → place_of (path_components entry.path) ≡ Some place → place_of (path_components other.path) ≡ Some place → ⊥
+          → place_of (components entry.path) ≡ Some place → place_of (components other.path) ≡ Some place → ⊥
       apart k l entry other less within within_2 is is_2 leads leads_2 =
-          (whole.distinct l (rw (length-map entries (λ (entry : Entry). path_components entry.path)) within_2)).first k less
+          (whole.distinct l (rw (length-map entries (λ (entry : Entry). components entry.path)) within_2)).first k less
           (rw (path_at-entry entries l other within_2 is_2, path_at-entry entries k entry within is)
           (IsSame-one_place place leads_2 leads))
 

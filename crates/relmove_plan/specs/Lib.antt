@@ -1,2 +1,5 @@
 pub mod WholeTrees
-pub mod Runs
+pub mod FileTrees
+pub mod TreeActions
+pub mod MovedTrees
+pub mod KnownTrees

@@ -1,8 +1,7 @@
 -- Trees that are whole: each directory above an entry is an entry too.
 use Rattle.std.specs.Prelude.{◌≡◌, ◌⊎◌, ℕ, Bool, true, false, List, [], ◌∷◌, ◌++◌, Some}
 use Rattle.std.specs.List.{All, Any}
-use Rattle.relative_path.specs.Steps.{Step}
-use Rattle.relative_path.specs.RelativePath.{path_components}
+use Rattle.relative_path.specs.Steps.{Step, components}
 use Rattle.relative_path.specs.Walk.{place_of}
 use Rattle.relmove_checks.specs.declared.entry.Entry.{Entry}
 use Rattle.relmove_checks.specs.Trees.{AreDistinct, entry_paths, is_directory}
@@ -10,7 +9,7 @@ use Rattle.relmove_checks.specs.Trees.{AreDistinct, entry_paths, is_directory}
 -- the entry is at the place; it is a directory, or it is none
 pub record IsAt (directory : Bool) (place : List (List ℕ)) (entry : Entry) : Type 0 where
   pub kind : is_directory entry.kind ≡ directory
-  pub leads : place_of (path_components entry.path) ≡ Some place
+  pub leads : place_of (components entry.path) ≡ Some place
 
 -- an entry at the place is a directory
 abbrev pub HasDirectoryAt : List Entry → List (List ℕ) → Type 0
@@ -20,7 +19,7 @@ HasDirectoryAt entries place = Any (IsAt true place) entries
 pub record IsHeld (entries : List Entry) (entry : Entry) : Type 0 where
   pub directory : List (List ℕ)
   pub name : List ℕ
-  pub leads : place_of (path_components entry.path) ≡ Some (directory ++ name ∷ [])
+  pub leads : place_of (components entry.path) ≡ Some (directory ++ name ∷ [])
   pub held : (directory ≡ []) ⊎ HasDirectoryAt entries directory
 
 -- the components lead to an entry that isn't a directory

@@ -25,8 +25,7 @@ pub(crate) fn symlink_notices(
     let mut notices = Vec::new(alloc);
     for entry in entries {
         if let Kind::Symlink { path } = entry.kind {
-            let notice = notice_of(alloc, entry.path, path, moves)?;
-            if notice.moves || notice.leads_to_moved {
+            if let Some(notice) = notice_of(alloc, &entry.path, path, moves)? {
                 notices.push(notice)?;
             }
         }
@@ -34,27 +33,29 @@ pub(crate) fn symlink_notices(
     Ok(notices)
 }
 
-// Returns what moves do with a symbolic link and what it leads to.
+// Returns what moves do with a symbolic link and what it leads to. `None` if they do nothing.
 fn notice_of(
     alloc: Global,
-    path: RelativePath<'_>,
-    target: Option<RelativePath<'_>>,
+    symlink: &NormalPath,
+    path: Option<RelativePath<'_>>,
     moves: &TreeMoves<'_>,
-) -> Result<SymlinkNotice, AllocError> {
-    let path = NormalPath::of(alloc, path)?;
-    let is_moved = gets_elsewhere(alloc, &path, moves)?;
-    let leads_to_moved = match target {
-        Some(target) => {
-            let meant = NormalPath::of_joined(alloc, path.directory(), target)?;
+) -> Result<Option<SymlinkNotice>, AllocError> {
+    let is_moved = gets_elsewhere(alloc, symlink, moves)?;
+    let leads_to_moved = match path {
+        Some(path) => {
+            let meant = NormalPath::of_joined(alloc, symlink.directory().as_relative_path(), path)?;
             gets_elsewhere(alloc, &meant, moves)?
         }
         None => false,
     };
-    Ok(SymlinkNotice {
-        path,
+    if !is_moved && !leads_to_moved {
+        return Ok(None);
+    }
+    Ok(Some(SymlinkNotice {
+        path: symlink.copy(alloc)?,
         moves: is_moved,
         leads_to_moved,
-    })
+    }))
 }
 
 // Returns whether what is at a path gets another one.

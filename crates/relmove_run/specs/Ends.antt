@@ -1,7 +1,7 @@
 -- From which stage a run is ended.
 use Rattle.std.specs.Prelude.{Option, Some, None}
-use Rattle.relmove_run.specs.declared.ending.Way.{Way}
-use Rattle.relmove_run.specs.declared.ending.Way.TheVariants.{Resume, Undo}
+use Rattle.relmove_run.specs.declared.ending.Direction.{Direction}
+use Rattle.relmove_run.specs.declared.ending.Direction.TheVariants.{Resume, Undo}
 use Rattle.relmove_journal.specs.declared.work.Stage.{Stage}
 use Rattle.relmove_journal.specs.declared.work.Stage.TheVariants.{Writing, Staging, Making, Placing, Cleaning, Unplacing, Unmaking, Unstaging, Erasing}
 
@@ -19,6 +19,6 @@ stage_back Unstaging = Some Unstaging
 stage_back Erasing = Some Erasing
 
 -- the stage from which a run is ended: its own if it goes on the way it was going
-abbrev pub stage_to_end : Way → Stage → Option Stage
+abbrev pub stage_to_end : Direction → Stage → Option Stage
 stage_to_end Resume stage = Some stage
 stage_to_end Undo stage = stage_back stage

@@ -1,37 +1,37 @@
 //! What the end of a run that stopped would do.
 ghost use Rattle.std.specs.Prelude.{◌≡◌, MatchResult, None, Some};
 ghost use Rattle.relmove_run.specs.Ends.{stage_back, stage_to_end};
-ghost use Rattle.relmove_run.specs.declared.fault.Fault.TheVariants.{TooLate};
+ghost use Rattle.relmove_run.specs.declared.fault.RunFault.TheVariants.{TooLate};
 
 use crate::change::Change;
-use crate::fault::Fault;
+use crate::fault::RunFault;
 use crate::stages::{MOST_STAGES, actions_of, next_stage};
 use relmove_journal::{Stage, Work};
 use std::alloc::{AllocError, Global};
 
-/// Which way a run that stopped is ended.
+/// The direction in which a run that stopped is ended.
 #[derive(Clone, Copy, Debug, PartialEq, Eq)]
-pub enum Way {
+pub enum Direction {
     /// It goes on to its end, or, if it was going back, to its beginning.
     Resume,
     /// It goes back to its beginning.
     Undo,
 }
 
-// The stage from which a run is ended this way, if the run is at a stage. Fails if it is too late to take the run back.
-pub(crate) fn stage_to_end(way: Way, stage: Stage) -> Result<Stage, Fault>
+// The stage from which a run is ended in a direction, if the run is at a stage. Fails if it is too late to take the run back.
+pub(crate) fn stage_to_end(direction: Direction, stage: Stage) -> Result<Stage, RunFault>
     ensures { MatchResult result
-        (λ next. stage_to_end way stage ≡ Some next)
-        (λ fault. (fault ≡ TooLate) × (stage_to_end way stage ≡ None)) }
+        (λ next. stage_to_end direction stage ≡ Some next)
+        (λ fault. (fault ≡ TooLate) × (stage_to_end direction stage ≡ None)) }
 {
-    match way {
-        Way::Resume => Ok(stage),
-        Way::Undo => stage_back(stage),
+    match direction {
+        Direction::Resume => Ok(stage),
+        Direction::Undo => stage_back(stage),
     }
 }
 
 // The stage from which a run at a stage goes back. Fails if it is too late.
-fn stage_back(stage: Stage) -> Result<Stage, Fault>
+fn stage_back(stage: Stage) -> Result<Stage, RunFault>
     ensures { MatchResult result
         (λ next. stage_back stage ≡ Some next)
         (λ fault. (fault ≡ TooLate) × (stage_back stage ≡ None)) }
@@ -41,7 +41,7 @@ fn stage_back(stage: Stage) -> Result<Stage, Fault>
         Stage::Staging => Ok(Stage::Unstaging),
         Stage::Making => Ok(Stage::Unmaking),
         Stage::Placing => Ok(Stage::Unplacing),
-        Stage::Cleaning => Err(Fault::TooLate),
+        Stage::Cleaning => Err(RunFault::TooLate),
         Stage::Unplacing => Ok(Stage::Unplacing),
         Stage::Unmaking => Ok(Stage::Unmaking),
         Stage::Unstaging => Ok(Stage::Unstaging),

@@ -1,6 +1,6 @@
 //! Why a call fails.
 ghost use Rattle.std.specs.Prelude.{◌≡◌};
-ghost use Rattle.relmove_run.specs.declared.fault.Fault.TheVariants.{OutOfMemory};
+ghost use Rattle.relmove_run.specs.declared.fault.RunFault.TheVariants.{OutOfMemory};
 ghost use Rattle.relmove_run.specs.Faults.{fault_of_error};
 
 use crate::printable::Printable;
@@ -14,7 +14,7 @@ use std::time::SystemTime;
 
 /// A call of the file system.
 #[derive(Clone, Copy, Debug, PartialEq, Eq)]
-pub enum Call {
+pub enum SystemCall {
     /// Asks for what is at a path.
     Ask,
     /// Locks a directory.
@@ -24,7 +24,7 @@ pub enum Call {
     /// Reads a file.
     Read,
     /// Reads where a symbolic link leads.
-    ReadLink,
+    ReadSymlink,
     /// Makes a file.
     Create,
     /// Writes a file.
@@ -36,7 +36,7 @@ pub enum Call {
     /// Renames a file or directory.
     Rename,
     /// Gives a file a second name.
-    Link,
+    HardLink,
     /// Makes a directory.
     MakeDirectory,
     /// Removes a file.
@@ -45,34 +45,34 @@ pub enum Call {
     RemoveDirectory,
 }
 
-impl Call {
+impl SystemCall {
     // What the call does, in words.
     fn words(self) -> &'static str {
         match self {
-            Call::Ask => "look up",
-            Call::Lock => "lock",
-            Call::List => "list",
-            Call::Read | Call::ReadLink => "read",
-            Call::Create | Call::MakeDirectory => "make",
-            Call::Write => "write",
-            Call::Sync => "sync",
-            Call::SetPermissions => "set the permissions of",
-            Call::Rename => "rename",
-            Call::Link => "link",
-            Call::RemoveFile | Call::RemoveDirectory => "remove",
+            SystemCall::Ask => "look up",
+            SystemCall::Lock => "lock",
+            SystemCall::List => "list",
+            SystemCall::Read | SystemCall::ReadSymlink => "read",
+            SystemCall::Create | SystemCall::MakeDirectory => "make",
+            SystemCall::Write => "write",
+            SystemCall::Sync => "sync",
+            SystemCall::SetPermissions => "set the permissions of",
+            SystemCall::Rename => "rename",
+            SystemCall::HardLink => "link",
+            SystemCall::RemoveFile | SystemCall::RemoveDirectory => "remove",
         }
     }
 }
 
 /// Why a call fails. Paths are relative to the root.
 #[derive(Debug, Drop)]
-pub enum Fault {
+pub enum RunFault {
     /// An allocation failed.
     OutOfMemory,
     /// A call of the file system failed.
     System {
         /// Which call.
-        call: Call,
+        call: SystemCall,
         /// The path.
         path: String,
         /// What the system says.
@@ -123,38 +123,38 @@ pub enum Fault {
     /// The journal is of a run of another user, the one of this number.
     OthersJournal(u32),
     /// Something has a name of the run's own, and no run left it.
-    OwnName(String),
+    ReservedName(String),
     /// A run that was killed before it changed anything left a file of its own.
     LeftOver(String),
-    /// The steps aren't those of a plan.
+    /// The actions aren't those of a plan.
     NotAPlan,
     /// Everything is at its new path already, so the run can't be taken back.
     TooLate,
 }
 
-impl fmt::Display for Fault {
+impl fmt::Display for RunFault {
     fn fmt<W: fmt::Write>(&self, f: &mut fmt::Formatter<W>) -> fmt::Result {
         match self {
-            Fault::System { call, path, why } => {
+            RunFault::System { call, path, why } => {
                 let words = call.words();
-                let path = Printable(named(path.as_str()));
+                let path = Printable(path_or_root(path.as_str()));
                 write!(f, "can't {words} {path}: {why}")
             }
-            Fault::Both { from, to } => {
+            RunFault::Both { from, to } => {
                 let (from, to) = (Printable(from.as_str()), Printable(to.as_str()));
                 write!(
                     f,
                     "can't rename {from} to {to}: something is at both paths. Rename or remove the one that isn't the run's"
                 )
             }
-            Fault::HasJournal { written, stage } => write_has_journal(f, *written, *stage),
-            Fault::OthersJournal(owner) => write!(
+            RunFault::HasJournal { written, stage } => write_has_journal(f, *written, *stage),
+            RunFault::OthersJournal(owner) => write!(
                 f,
                 "the journal .relmove is of a run of another user, of the number {owner}: only this user ends it, or root with --trust-journal"
             ),
             other => match words_with_path(other) {
                 Some((path, words)) => {
-                    let path = Printable(named(path));
+                    let path = Printable(path_or_root(path));
                     write!(f, "{path} {words}")
                 }
                 None => f.write_str(words_alone(other)),
@@ -164,7 +164,7 @@ impl fmt::Display for Fault {
 }
 
 // A path as it is printed. The root has the empty path.
-fn named(path: &str) -> &str {
+fn path_or_root(path: &str) -> &str {
     if path.is_empty() { "ROOT" } else { path }
 }
 
@@ -196,36 +196,36 @@ fn commands_at(stage: Option<Stage>) -> &'static str {
 }
 
 // The path of a fault, and the words that follow it.
-fn words_with_path(fault: &Fault) -> Option<(&str, &'static str)> {
+fn words_with_path(fault: &RunFault) -> Option<(&str, &'static str)> {
     match fault {
-        Fault::Missing(path) => Some((path.as_str(), "isn't there")),
-        Fault::NotADirectory(path) => Some((
+        RunFault::Missing(path) => Some((path.as_str(), "isn't there")),
+        RunFault::NotADirectory(path) => Some((
             path.as_str(),
             "is no directory: a symbolic link or a file is there",
         )),
-        Fault::TooLong(path) => Some((path.as_str(), "is too long, or a name in it is")),
-        Fault::OtherDevice(path) => Some((path.as_str(), "is on another file system than ROOT")),
-        Fault::Changed(path) => Some((
+        RunFault::TooLong(path) => Some((path.as_str(), "is too long, or a name in it is")),
+        RunFault::OtherDevice(path) => Some((path.as_str(), "is on another file system than ROOT")),
+        RunFault::Changed(path) => Some((
             path.as_str(),
             "was changed while the run worked, so the run was taken back",
         )),
-        Fault::OtherText(path) => Some((
+        RunFault::OtherText(path) => Some((
             path.as_str(),
             "isn't the text that the run wrote: another program changed it, or put it there",
         )),
-        Fault::Exchanged(path) => Some((
+        RunFault::Exchanged(path) => Some((
             path.as_str(),
             "isn't the directory that the run made: another program removed or exchanged it",
         )),
-        Fault::JournalNear(path) => Some((
+        RunFault::JournalNear(path) => Some((
             path.as_str(),
             "is the journal of a run that didn't end. If it was your run, end it first. If the folder came from elsewhere, the journal may have come with it: then remove it",
         )),
-        Fault::OwnName(path) => Some((
+        RunFault::ReservedName(path) => Some((
             path.as_str(),
             "has a name of relmove's own, and relmove didn't leave it: remove or rename it",
         )),
-        Fault::LeftOver(path) => Some((
+        RunFault::LeftOver(path) => Some((
             path.as_str(),
             "was left by a run that was killed: call relmove --undo ROOT to remove it",
         )),
@@ -234,79 +234,84 @@ fn words_with_path(fault: &Fault) -> Option<(&str, &'static str)> {
 }
 
 // The words of a fault without a path.
-fn words_alone(fault: &Fault) -> &'static str {
+fn words_alone(fault: &RunFault) -> &'static str {
     match fault {
-        Fault::OutOfMemory => "memory ran out",
-        Fault::AtWork => "another call of relmove is at work here",
-        Fault::NoJournal => "there is no run that didn't end",
-        Fault::NotAJournal => {
+        RunFault::OutOfMemory => "memory ran out",
+        RunFault::AtWork => "another call of relmove is at work here",
+        RunFault::NoJournal => "there is no run that didn't end",
+        RunFault::NotAJournal => {
             ".relmove isn't a journal that relmove wrote: another program made or changed it"
         }
-        Fault::OldJournal => {
+        RunFault::OldJournal => {
             "the journal .relmove is of an older relmove. Rename by hand what it lists: from the names that begin with .relmove- to the old paths (lines apart or staged) or to the new ones (lines together or placed), and remove it then"
         }
-        Fault::ForeignJournal => {
+        RunFault::ForeignJournal => {
             "the journal .relmove wasn't written in this folder: it came with a copy or from elsewhere. Add --trust-journal to see what it asks for. If you remove it, what is in .relmove-run stays there, and nothing says where it belongs"
         }
-        Fault::LinkedJournal => {
+        RunFault::LinkedJournal => {
             "the journal .relmove has another name too, as cp -al and some backups give to a file. Add --trust-journal to see what it asks for"
         }
-        Fault::NotAPlan => "the steps aren't those of a plan",
-        Fault::TooLate => {
+        RunFault::NotAPlan => "the steps aren't those of a plan",
+        RunFault::TooLate => {
             "everything is at its new path already: call relmove --resume ROOT to end the run"
         }
         _ => "",
     }
 }
 
-impl Error for Fault {}
+impl Error for RunFault {}
 
-impl From<JournalError> for Fault {
+impl From<JournalError> for RunFault {
     // the fault of the same name
     ghost from_gives = { λ error fault. fault ≡ fault_of_error error };
 
-    fn from(error: JournalError) -> Fault {
+    fn from(error: JournalError) -> RunFault {
         match error {
-            JournalError::OutOfMemory => Fault::OutOfMemory,
-            JournalError::NotAJournal => Fault::NotAJournal,
-            JournalError::OldJournal => Fault::OldJournal,
+            JournalError::OutOfMemory => RunFault::OutOfMemory,
+            JournalError::NotAJournal => RunFault::NotAJournal,
+            JournalError::OldJournal => RunFault::OldJournal,
         }
     }
 }
 
-impl From<AllocError> for Fault {
+impl From<AllocError> for RunFault {
     // a failed allocation becomes `OutOfMemory`
     ghost from_gives = { λ _ fault. fault ≡ OutOfMemory };
 
-    fn from(_: AllocError) -> Fault {
-        Fault::OutOfMemory
+    fn from(_: AllocError) -> RunFault {
+        RunFault::OutOfMemory
     }
 }
 
-impl<T: Drop> From<AllocFailed<T>> for Fault {
+impl<T: Drop> From<AllocFailed<T>> for RunFault {
     // a failed allocation becomes `OutOfMemory`
     ghost from_gives = { λ _ fault. fault ≡ OutOfMemory };
 
-    fn from(_: AllocFailed<T>) -> Fault {
-        Fault::OutOfMemory
+    fn from(_: AllocFailed<T>) -> RunFault {
+        RunFault::OutOfMemory
     }
 }
 
 /// The outcome of a call of the file system, with the call and the path if it failed.
-pub fn at<T>(alloc: Global, call: Call, path: &str, outcome: io::Result<T>) -> Result<T, Fault> {
+pub fn at<T>(
+    alloc: Global,
+    call: SystemCall,
+    path: &str,
+    outcome: io::Result<T>,
+) -> Result<T, RunFault> {
     match outcome {
         Ok(value) => Ok(value),
         Err(error) => Err(fault_of(alloc, call, path, &error)),
     }
 }
 
-/// The fault that a call failed: [`Fault::OutOfMemory`] if it failed for lack of memory.
-pub fn fault_of(alloc: Global, call: Call, path: &str, error: &io::Error) -> Fault {
+/// The fault that a call failed: [`RunFault::OutOfMemory`] if it failed for lack of memory.
+pub fn fault_of(alloc: Global, call: SystemCall, path: &str, error: &io::Error) -> RunFault {
     if error.kind() == ErrorKind::OutOfMemory {
-        return Fault::OutOfMemory;
+        return RunFault::OutOfMemory;
     }
     match (String::from_str(alloc, path), error.to_string(alloc)) {
-        (Ok(path), Ok(why)) => Fault::System { call, path, why },
-        _ => Fault::OutOfMemory,
+        (Ok(path), Ok(why)) => RunFault::System { call, path, why },
+        _ => RunFault::OutOfMemory,
     }
 }

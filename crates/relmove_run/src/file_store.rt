@@ -102,7 +102,7 @@ impl Store for FileStore {
         Ok(names)
     }
 
-    fn read_link(&mut self, path: &str) -> io::Result<Option<String>> {
+    fn read_symlink(&mut self, path: &str) -> io::Result<Option<String>> {
         match fs::read_link(&self.runtime, self.full(path)?.as_str()) {
             Ok(target) => Ok(Some(String::from_str(self.runtime.alloc(), target.as_str())?)),
             Err(error) if error.kind() == ErrorKind::InvalidFilename => Ok(None),
@@ -159,7 +159,7 @@ impl Store for FileStore {
         fs::rename(&self.runtime, from.as_str(), to.as_str())
     }
 
-    fn link(&mut self, from: &str, to: &str) -> io::Result<()> {
+    fn hard_link(&mut self, from: &str, to: &str) -> io::Result<()> {
         let (from, to) = (self.full(from)?, self.full(to)?);
         fs::hard_link(&self.runtime, from.as_str(), to.as_str())
     }
@@ -263,7 +263,7 @@ fn found_of(metadata: &Metadata) -> Found {
         kind: kind_of(metadata.file_type()),
         device: metadata.dev(),
         inode: metadata.ino(),
-        links: metadata.nlink(),
+        names: metadata.nlink(),
         length: metadata.len(),
         mode: metadata.mode() & PERMISSIONS,
         owner: metadata.uid(),

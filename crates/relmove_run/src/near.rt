@@ -1,8 +1,8 @@
 //! Looks for journals of other runs, in the directories below a root and above it.
-use crate::actions::{copy_of, find};
-use crate::fault::Fault;
-use crate::own_files::JOURNAL;
+use crate::disk::{copy_of, find};
+use crate::fault::RunFault;
 use crate::remark::Remark;
+use crate::run_files::JOURNAL;
 use crate::store::{FoundKind, Store};
 use relmove_journal::join;
 
@@ -16,7 +16,7 @@ const MOST_ABOVE: usize = 4096;
 pub fn need_no_journal_near<S: Store>(
     store: &mut S,
     directories: &[&str],
-) -> Result<Vec<Remark>, Fault> {
+) -> Result<Vec<Remark>, RunFault> {
     let owner = owner_of_root(store)?;
     let mut others = Vec::new(store.alloc());
     look_near(store, directories, owner, &mut others)?;
@@ -30,7 +30,7 @@ pub fn need_no_journal_near<S: Store>(
 pub fn need_no_journal_below<S: Store>(
     store: &mut S,
     directories: &[&str],
-) -> Result<Vec<Remark>, Fault> {
+) -> Result<Vec<Remark>, RunFault> {
     let owner = owner_of_root(store)?;
     let mut others = Vec::new(store.alloc());
     look_below(store, directories, owner, &mut others)?;
@@ -38,10 +38,10 @@ pub fn need_no_journal_below<S: Store>(
 }
 
 // The user who owns the root.
-fn owner_of_root<S: Store>(store: &mut S) -> Result<u32, Fault> {
+fn owner_of_root<S: Store>(store: &mut S) -> Result<u32, RunFault> {
     match find(store, "")? {
         Some(root) => Ok(root.owner),
-        None => Err(Fault::Missing(copy_of(store, store.root())?)),
+        None => Err(RunFault::Missing(copy_of(store, store.root())?)),
     }
 }
 
@@ -51,7 +51,7 @@ pub(crate) fn look_near<S: Store>(
     directories: &[&str],
     user: u32,
     others: &mut Vec<Remark>,
-) -> Result<(), Fault> {
+) -> Result<(), RunFault> {
     look_below(store, directories, user, others)?;
     look_above(store, user, others)
 }
@@ -62,7 +62,7 @@ fn look_below<S: Store>(
     directories: &[&str],
     user: u32,
     others: &mut Vec<Remark>,
-) -> Result<(), Fault> {
+) -> Result<(), RunFault> {
     for directory in directories {
         if !directory.is_empty() {
             look_in(store, directory, user, others)?;
@@ -77,28 +77,32 @@ fn look_in<S: Store>(
     directory: &str,
     user: u32,
     others: &mut Vec<Remark>,
-) -> Result<(), Fault> {
+) -> Result<(), RunFault> {
     let path = join(store.alloc(), directory, JOURNAL)?;
     match find(store, path.as_str()) {
         Ok(Some(found)) if found.kind == FoundKind::File && found.owner == user => {
-            Err(Fault::JournalNear(path))
+            Err(RunFault::JournalNear(path))
         }
         Ok(Some(found)) if found.kind == FoundKind::File => {
             let owner = found.owner;
             Ok(others.push(Remark::Near { path, owner })?)
         }
-        Err(Fault::OutOfMemory) => Err(Fault::OutOfMemory),
+        Err(RunFault::OutOfMemory) => Err(RunFault::OutOfMemory),
         _ => Ok(()),
     }
 }
 
 // Fails if a directory above the root has a journal of a user. Notes those of others.
-fn look_above<S: Store>(store: &mut S, user: u32, others: &mut Vec<Remark>) -> Result<(), Fault> {
+fn look_above<S: Store>(
+    store: &mut S,
+    user: u32,
+    others: &mut Vec<Remark>,
+) -> Result<(), RunFault> {
     let mut below = find(store, "")?;
     let mut directory = String::from_str(store.alloc(), "..")?;
     for _ in 0..MOST_ABOVE {
         let above = match find(store, directory.as_str()) {
-            Err(Fault::OutOfMemory) => return Err(Fault::OutOfMemory),
+            Err(RunFault::OutOfMemory) => return Err(RunFault::OutOfMemory),
             Err(_) => None,
             Ok(above) => above,
         };

@@ -1,9 +1,9 @@
 //! Asks the system whether it can have the paths of a run, before the run begins.
-use crate::actions::copy_of;
-use crate::fault::{Call, Fault, at};
+use crate::disk::copy_of;
+use crate::fault::{RunFault, SystemCall, at};
 use crate::staging_names::{is_of_text, staging_path, text_path};
 use crate::store::{Found, FoundKind, Store};
-use relmove_actions::Steps;
+use relmove_actions::Actions;
 use relmove_journal::{directory_of, join};
 use std::alloc::Global;
 use std::collections::BTreeMap;
@@ -12,56 +12,56 @@ use std::io::ErrorKind;
 /// How many bytes a path may have. The system counts a NUL at its end.
 pub const LONGEST_PATH: usize = 4095;
 
-/// Fails if the system can't have a path of these steps: a path is too long, or has a name that is, or is on another
+/// Fails if the system can't have a path of these actions: a path is too long, or has a name that is, or is on another
 /// file system than the root. Nothing is changed.
 ///
 /// A name that isn't there is asked for by itself, in the nearest directory above it that is there.
-pub fn need_possible<S: Store>(store: &mut S, steps: &Steps) -> Result<(), Fault> {
+pub fn need_possible<S: Store>(store: &mut S, actions: &Actions) -> Result<(), RunFault> {
     let Some(root) = find_at(store, "")? else {
-        return Err(Fault::Missing(copy_of(store, store.root())?));
+        return Err(RunFault::Missing(copy_of(store, store.root())?));
     };
     let mut asked = BTreeMap::new(store.alloc());
-    for text in &steps.texts {
+    for text in &actions.texts {
         let path = text_path(store.alloc(), text.file.as_str())?;
         need_short(store.alloc(), store.root(), path.as_str())?;
     }
-    for rename in &steps.apart {
+    for rename in &actions.staged {
         if !is_of_text(rename) {
             need_on_device(store, rename.from.as_str(), &root)?;
         }
     }
-    for path in &steps.made {
+    for path in &actions.made {
         let path = staging_path(store.alloc(), path.as_str())?;
         need_short(store.alloc(), store.root(), path.as_str())?;
     }
-    for rename in &steps.together {
+    for rename in &actions.placed {
         need_fine_path(store, rename.to.as_str(), &root, &mut asked)?;
     }
     Ok(())
 }
 
 // What is at a path. A path that is too long is a fault.
-fn find_at<S: Store>(store: &mut S, path: &str) -> Result<Option<Found>, Fault> {
+fn find_at<S: Store>(store: &mut S, path: &str) -> Result<Option<Found>, RunFault> {
     match store.find(path) {
         Err(error) if error.kind() == ErrorKind::InvalidFilename => {
-            Err(Fault::TooLong(copy_of(store, path)?))
+            Err(RunFault::TooLong(copy_of(store, path)?))
         }
-        asked => at(store.alloc(), Call::Ask, path, asked),
+        asked => at(store.alloc(), SystemCall::Ask, path, asked),
     }
 }
 
 /// Fails if a path below a root is too long for the system.
 ///
 /// Allocates the path with the root's path before it.
-pub fn need_short(alloc: Global, root: &str, path: &str) -> Result<(), Fault> {
+pub fn need_short(alloc: Global, root: &str, path: &str) -> Result<(), RunFault> {
     if join(alloc, root, path)?.len() > LONGEST_PATH {
-        return Err(Fault::TooLong(String::from_str(alloc, path)?));
+        return Err(RunFault::TooLong(String::from_str(alloc, path)?));
     }
     Ok(())
 }
 
 // Fails if what is at a path is on another file system than the root.
-fn need_on_device<S: Store>(store: &mut S, path: &str, root: &Found) -> Result<(), Fault> {
+fn need_on_device<S: Store>(store: &mut S, path: &str, root: &Found) -> Result<(), RunFault> {
     need_directory_on_device(store, directory_of(path), root)?;
     need_directory_on_device(store, path, root)
 }
@@ -72,10 +72,10 @@ fn need_directory_on_device<S: Store>(
     store: &mut S,
     path: &str,
     root: &Found,
-) -> Result<(), Fault> {
+) -> Result<(), RunFault> {
     match find_at(store, path)? {
         Some(found) if found.kind == FoundKind::Directory && found.device != root.device => {
-            Err(Fault::OtherDevice(copy_of(store, path)?))
+            Err(RunFault::OtherDevice(copy_of(store, path)?))
         }
         _ => Ok(()),
     }
@@ -88,7 +88,7 @@ fn need_fine_path<S: Store>(
     path: &str,
     root: &Found,
     asked: &mut BTreeMap<String, bool>,
-) -> Result<(), Fault> {
+) -> Result<(), RunFault> {
     need_short(store.alloc(), store.root(), path)?;
     let mut nearest = String::new(store.alloc());
     for name in path.split('/') {
@@ -112,16 +112,16 @@ fn is_fine_directory<S: Store>(
     directory: &str,
     path: &str,
     root: &Found,
-) -> Result<bool, Fault> {
+) -> Result<bool, RunFault> {
     match find_at(store, directory) {
         Ok(Some(found)) if found.kind == FoundKind::Directory => {
             if found.device != root.device {
-                return Err(Fault::OtherDevice(copy_of(store, directory)?));
+                return Err(RunFault::OtherDevice(copy_of(store, directory)?));
             }
             Ok(true)
         }
         Ok(_) => Ok(false),
-        Err(Fault::TooLong(_)) => Err(Fault::TooLong(copy_of(store, path)?)),
+        Err(RunFault::TooLong(_)) => Err(RunFault::TooLong(copy_of(store, path)?)),
         Err(fault) => Err(fault),
     }
 }

@@ -1,5 +1,5 @@
 //! What a run says at its end beside that it ended.
-use crate::fault::Fault;
+use crate::fault::RunFault;
 use crate::printable::Printable;
 use std::fmt;
 
@@ -34,7 +34,7 @@ pub enum Remark {
     /// program put it.
     Away(String),
     /// A directory that the run emptied, or its own directory, can't be removed.
-    Stays(Fault),
+    Stays(RunFault),
 }
 
 impl fmt::Display for Remark {

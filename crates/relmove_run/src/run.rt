@@ -1,19 +1,19 @@
 //! A run, its end after a fault, and its undoing.
-use crate::actions::{PageChange, find, need_page, sync_directory};
+use crate::above::need_no_symlinks_above;
 use crate::change::Change;
-use crate::ending::{Way, changes_from, goes_on, stage_to_end};
-use crate::fault::{Call, Fault, at};
+use crate::disk::{PageChange, find, need_page, sync_directory};
+use crate::ending::{Direction, changes_from, goes_on, stage_to_end};
+use crate::fault::{RunFault, SystemCall, at};
 use crate::near::need_no_journal_near;
-use crate::own_files::{
-    JOURNAL, Trust, find_journal, need_no_own_files, none_yet, own_files_of, remove_leftovers,
-};
 use crate::possible::need_possible;
 use crate::remark::Remark;
+use crate::run_files::{
+    JOURNAL, Trust, find_journal, need_no_run_files, none_yet, remove_leftovers, run_files_of,
+};
 use crate::staging_names::with_staging_names;
 use crate::store::{Found, PageFile, Store};
-use crate::ways::need_ways;
 use crate::worker::Worker;
-use relmove_actions::{NewText, Rename, Steps};
+use relmove_actions::{Actions, NewText, Rename};
 use relmove_journal::{Journal, Leftover, Stage, TextDigest, TextFile, Work, is_of_run};
 use std::alloc::{AllocError, Global};
 use std::collections::BTreeMap;
@@ -26,19 +26,19 @@ pub enum Ended {
     /// The run was taken back: everything is as before, but for what the remarks say.
     TakenBack {
         /// Why the run went back by itself. `None` if it was to go back.
-        cause: Option<Fault>,
+        cause: Option<RunFault>,
         /// What is left.
         remarks: Vec<Remark>,
     },
     /// Nothing is changed. A file of the run's own may be left, if the run couldn't remove it.
-    Refused(Fault),
+    Refused(RunFault),
     /// The call stopped in the middle. What it did stays.
     Stopped {
         /// How far the run is, as its journal says. If the journal can't be read, this is the last stage that the run
         /// knows of, and the journal may say a later one.
         stage: Stage,
         /// Why it stopped.
-        fault: Fault,
+        fault: RunFault,
         /// Whether the journal was read afterwards.
         has_journal: bool,
         /// What is left of the stages that ended.
@@ -51,13 +51,13 @@ pub enum Ended {
 pub struct Locked<S: Drop>(S);
 
 impl<S: Store + Drop> Locked<S> {
-    /// Takes the lock of a root. Fails with [`Fault::AtWork`] if another process has it.
-    pub fn new(mut store: S) -> Result<Locked<S>, Fault> {
+    /// Takes the lock of a root. Fails with [`RunFault::AtWork`] if another process has it.
+    pub fn new(mut store: S) -> Result<Locked<S>, RunFault> {
         let locked = store.lock();
-        if at(store.alloc(), Call::Lock, store.root(), locked)? {
+        if at(store.alloc(), SystemCall::Lock, store.root(), locked)? {
             return Ok(Locked(store));
         }
-        Err(Fault::AtWork)
+        Err(RunFault::AtWork)
     }
 
     /// The files.
@@ -70,12 +70,12 @@ impl<S: Store + Drop> Locked<S> {
 /// its owner's on a directory above it, didn't end, or if something else has a name of a run's own files.
 ///
 /// Allocates the remarks, and their paths.
-pub fn need_rest<S: Store>(store: &mut S) -> Result<Vec<Remark>, Fault> {
+pub fn need_rest<S: Store>(store: &mut S) -> Result<Vec<Remark>, RunFault> {
     let locked = store.is_locked();
-    if at(store.alloc(), Call::Lock, store.root(), locked)? {
-        return Err(Fault::AtWork);
+    if at(store.alloc(), SystemCall::Lock, store.root(), locked)? {
+        return Err(RunFault::AtWork);
     }
-    need_no_own_files(store)?;
+    need_no_run_files(store)?;
     need_no_journal_near(store, &[])
 }
 
@@ -93,11 +93,11 @@ pub struct PageText<'a> {
 /// Moves files and directories, and puts new texts in the place of pages. `pages` has the text of each page that gets a
 /// new one. `directories` are the directories below the root in which other runs may have journals.
 ///
-/// The staging names are in the run's own directory, [`OWN_DIRECTORY`](crate::OWN_DIRECTORY): the number of a name in between
-/// of the steps is the staging name's.
+/// The staging names are in the run's own directory, [`RUN_DIRECTORY`](crate::RUN_DIRECTORY): the number of a label of the plan
+/// is the staging name's.
 ///
 /// A new text gets the permissions, the owner and the group that its page had when its text was read. If another file is at
-/// the page's path, the call fails with [`Fault::Changed`] before it writes anything.
+/// the page's path, the call fails with [`RunFault::Changed`] before it writes anything.
 ///
 /// A fault before anything moves takes back everything: the files below the root are as before. So does a page whose
 /// text isn't the one that was read. After a fault in the middle each file is whole, at its old path, its new path or
@@ -109,11 +109,11 @@ pub struct PageText<'a> {
 /// [`need_no_journal_near`].
 pub fn carry_out<S: Store + Drop>(
     locked: Locked<S>,
-    steps: Steps,
+    actions: Actions,
     pages: &[PageText<'_>],
     directories: &[&str],
 ) -> Ended {
-    match begin(locked, steps, pages, directories) {
+    match begin(locked, actions, pages, directories) {
         Ok(worker) => go_on_or_back(worker),
         Err(ended) => ended,
     }
@@ -122,12 +122,12 @@ pub fn carry_out<S: Store + Drop>(
 /// Ends a run that stopped: goes on to the end, or, if the run was going back, to the beginning. If a page that changes
 /// was changed before it got its staging name, the run is taken back.
 pub fn resume<S: Store + Drop>(locked: Locked<S>, trust: Trust) -> Ended {
-    end_stopped(locked, trust, Way::Resume)
+    end_stopped(locked, trust, Direction::Resume)
 }
 
 /// Takes back a run that stopped before everything was at its new path.
 pub fn undo<S: Store + Drop>(locked: Locked<S>, trust: Trust) -> Ended {
-    end_stopped(locked, trust, Way::Undo)
+    end_stopped(locked, trust, Direction::Undo)
 }
 
 /// A run that stopped, as its journal said when it was read. So what [`StoppedRun::changes`] returns is what
@@ -146,7 +146,7 @@ impl StoppedRun {
     pub fn read<S: Store + Drop>(
         locked: &mut Locked<S>,
         trust: Trust,
-    ) -> Result<StoppedRun, Fault> {
+    ) -> Result<StoppedRun, RunFault> {
         let (found, journal) = find_journal(locked.store(), trust)?;
         Ok(StoppedRun {
             found,
@@ -158,30 +158,34 @@ impl StoppedRun {
     /// Returns the changes that the end of the run makes. Some of them may be made already.
     ///
     /// Allocates them.
-    pub fn changes(&self, alloc: Global, way: Way) -> Result<Vec<Change>, Fault> {
-        let stage = stage_to_end(way, self.journal.stage)?;
+    pub fn changes(&self, alloc: Global, direction: Direction) -> Result<Vec<Change>, RunFault> {
+        let stage = stage_to_end(direction, self.journal.stage)?;
         Ok(changes_from(alloc, &self.journal.work, stage)?)
     }
 
     /// Ends the run, as [`resume`] or [`undo`] does.
-    pub fn end<S: Store + Drop>(self, locked: Locked<S>, way: Way) -> Ended {
-        if let Err(fault) = stage_to_end(way, self.journal.stage) {
+    pub fn end<S: Store + Drop>(self, locked: Locked<S>, direction: Direction) -> Ended {
+        if let Err(fault) = stage_to_end(direction, self.journal.stage) {
             return Ended::Refused(fault);
         }
-        match (open(locked, self), way) {
-            (Ok(worker), Way::Resume) => end_from(worker),
-            (Ok(worker), Way::Undo) => turn_back(worker, None),
+        match (open(locked, self), direction) {
+            (Ok(worker), Direction::Resume) => end_from(worker),
+            (Ok(worker), Direction::Undo) => turn_back(worker, None),
             (Err(fault), _) => Ended::Refused(fault),
         }
     }
 }
 
 // Ends a run that stopped. Without a journal, removes what a kill left of the run's other files.
-fn end_stopped<S: Store + Drop>(mut locked: Locked<S>, trust: Trust, way: Way) -> Ended {
+fn end_stopped<S: Store + Drop>(
+    mut locked: Locked<S>,
+    trust: Trust,
+    direction: Direction,
+) -> Ended {
     match StoppedRun::read(&mut locked, trust) {
-        Ok(run) => run.end(locked, way),
-        Err(Fault::NoJournal) => match remove_leftovers(locked.store()) {
-            Ok(()) => Ended::Refused(Fault::NoJournal),
+        Ok(run) => run.end(locked, direction),
+        Err(RunFault::NoJournal) => match remove_leftovers(locked.store()) {
+            Ok(()) => Ended::Refused(RunFault::NoJournal),
             Err(fault) => Ended::Refused(fault),
         },
         Err(fault) => Ended::Refused(fault),
@@ -197,8 +201,8 @@ fn end_from<S: Store + Drop>(worker: Worker<S>) -> Ended {
 }
 
 // Takes a run back, unless it is too late. If it goes back by itself, it has a cause.
-fn turn_back<S: Store + Drop>(mut worker: Worker<S>, cause: Option<Fault>) -> Ended {
-    let stage = match stage_to_end(Way::Undo, worker.stage()) {
+fn turn_back<S: Store + Drop>(mut worker: Worker<S>, cause: Option<RunFault>) -> Ended {
+    let stage = match stage_to_end(Direction::Undo, worker.stage()) {
         Ok(stage) => stage,
         Err(fault) => return Ended::Refused(fault),
     };
@@ -213,11 +217,11 @@ fn turn_back<S: Store + Drop>(mut worker: Worker<S>, cause: Option<Fault>) -> En
 // Does everything up to the first rename.
 fn begin<S: Store + Drop>(
     locked: Locked<S>,
-    steps: Steps,
+    actions: Actions,
     pages: &[PageText<'_>],
     directories: &[&str],
 ) -> Result<Worker<S>, Ended> {
-    let (changes, mut worker) = match prepare(locked, steps, pages) {
+    let (changes, mut worker) = match prepare(locked, actions, pages) {
         Ok(prepared) => prepared,
         Err(fault) => return Err(Ended::Refused(fault)),
     };
@@ -233,39 +237,39 @@ fn begin<S: Store + Drop>(
 // The run, before it writes anything.
 fn prepare<S: Store + Drop>(
     locked: Locked<S>,
-    steps: Steps,
+    actions: Actions,
     pages: &[PageText<'_>],
-) -> Result<(Vec<PageChange>, Worker<S>), Fault> {
+) -> Result<(Vec<PageChange>, Worker<S>), RunFault> {
     let Locked(mut store) = locked;
-    let own = none_yet(&mut store)?;
-    need_possible(&mut store, &steps)?;
+    let files = none_yet(&mut store)?;
+    need_possible(&mut store, &actions)?;
     for page in pages {
         need_page(&mut store, page.path, &page.file)?;
     }
-    let steps = with_staging_names(store.alloc(), steps)?;
-    let (texts, work) = work_of(store.alloc(), steps, pages)?;
+    let actions = with_staging_names(store.alloc(), actions)?;
+    let (texts, work) = work_of(store.alloc(), actions, pages)?;
     if !is_of_run(store.alloc(), &work)? {
-        return Err(Fault::NotAPlan);
+        return Err(RunFault::NotAPlan);
     }
     let changes = changes_of(store.alloc(), texts, pages)?;
-    Ok((changes, Worker::new(store, own, work)))
+    Ok((changes, Worker::new(store, files, work)))
 }
 
 // The new texts, and the work of a run with them.
 fn work_of(
     alloc: Global,
-    steps: Steps,
+    actions: Actions,
     pages: &[PageText<'_>],
-) -> Result<(Vec<NewText>, Work), Fault> {
-    let cleaned = cleaned_of(alloc, &steps, pages)?;
+) -> Result<(Vec<NewText>, Work), RunFault> {
+    let cleaned = cleaned_of(alloc, &actions, pages)?;
     let work = Work {
-        texts: text_files_of(alloc, &steps.texts)?,
-        staged: steps.apart,
-        made: steps.made,
-        placed: steps.together,
+        texts: text_files_of(alloc, &actions.texts)?,
+        staged: actions.staged,
+        made: actions.made,
+        placed: actions.placed,
         cleaned,
     };
-    Ok((steps.texts, work))
+    Ok((actions.texts, work))
 }
 
 // The new texts, with the files of their pages.
@@ -273,7 +277,7 @@ fn changes_of(
     alloc: Global,
     texts: Vec<NewText>,
     pages: &[PageText<'_>],
-) -> Result<Vec<PageChange>, Fault> {
+) -> Result<Vec<PageChange>, RunFault> {
     let mut files = BTreeMap::new(alloc);
     for page in pages {
         files.insert(page.path, page.file)?;
@@ -281,7 +285,7 @@ fn changes_of(
     let mut changes = Vec::with_capacity(alloc, texts.len())?;
     for new in texts {
         let Some(old) = files.get(new.page.as_str()) else {
-            return Err(Fault::NotAPlan);
+            return Err(RunFault::NotAPlan);
         };
         changes.push(PageChange { old: *old, new })?;
     }
@@ -303,11 +307,11 @@ fn text_files_of(alloc: Global, texts: &[NewText]) -> Result<Vec<TextFile>, Allo
 // What is removed at the end of a run: the old texts, and then directories.
 fn cleaned_of(
     alloc: Global,
-    steps: &Steps,
+    actions: &Actions,
     pages: &[PageText<'_>],
-) -> Result<Vec<Leftover>, Fault> {
+) -> Result<Vec<Leftover>, RunFault> {
     let mut old_paths = BTreeMap::new(alloc);
-    for Rename { from, to } in &steps.apart {
+    for Rename { from, to } in &actions.staged {
         old_paths.insert(to.as_str(), from.as_str())?;
     }
     let mut old_texts = BTreeMap::new(alloc);
@@ -315,19 +319,19 @@ fn cleaned_of(
         old_texts.insert(page.path, page.text)?;
     }
     let mut cleaned = Vec::new(alloc);
-    for name in &steps.removed {
+    for name in &actions.removed {
         let text = old_paths
             .get(name.as_str())
             .and_then(|page| old_texts.get(*page));
         let Some(text) = text else {
-            return Err(Fault::NotAPlan);
+            return Err(RunFault::NotAPlan);
         };
         cleaned.push(Leftover::Text(TextFile {
             path: String::from_str(alloc, name.as_str())?,
             digest: TextDigest::of(text.as_bytes()),
         }))?;
     }
-    for path in &steps.emptied {
+    for path in &actions.emptied {
         cleaned.push(Leftover::Directory(String::from_str(alloc, path.as_str())?))?;
     }
     Ok(cleaned)
@@ -339,14 +343,14 @@ fn write_texts<S: Store + Drop>(
     worker: &mut Worker<S>,
     changes: &[PageChange],
     directories: &[&str],
-) -> Result<(), Fault> {
+) -> Result<(), RunFault> {
     worker.begin()?;
     worker.look_near(directories)?;
     worker.write_texts(changes)
 }
 
 // Takes back what was done, if the journal may say that things get staging names.
-fn refuse_staging<S: Store + Drop>(mut worker: Worker<S>, fault: Fault) -> Ended {
+fn refuse_staging<S: Store + Drop>(mut worker: Worker<S>, fault: RunFault) -> Ended {
     if worker.enter(Stage::Erasing).is_err() {
         return stop(worker, fault);
     }
@@ -354,11 +358,11 @@ fn refuse_staging<S: Store + Drop>(mut worker: Worker<S>, fault: Fault) -> Ended
 }
 
 // Takes back what was done.
-fn refuse<S: Store + Drop>(mut worker: Worker<S>, fault: Fault) -> Ended {
+fn refuse<S: Store + Drop>(mut worker: Worker<S>, fault: RunFault) -> Ended {
     if worker.finish().is_err() && may_have_journal(&mut worker) {
         return stop(worker, fault);
     }
-    refused(fault, worker.into_remarks())
+    refusal(fault, worker.into_remarks())
 }
 
 // Whether the root may have the run's journal. If it hasn't, the run changed nothing, or all of it is taken back.
@@ -367,7 +371,7 @@ fn may_have_journal<S: Store + Drop>(worker: &mut Worker<S>) -> bool {
 }
 
 // How a run ended that did nothing but what was taken back.
-fn refused(fault: Fault, remarks: Vec<Remark>) -> Ended {
+fn refusal(fault: RunFault, remarks: Vec<Remark>) -> Ended {
     if remarks.is_empty() {
         return Ended::Refused(fault);
     }
@@ -378,7 +382,7 @@ fn refused(fault: Fault, remarks: Vec<Remark>) -> Ended {
 }
 
 // The run stopped. A call that put a journal in its place may have been reported as failed, so the journal is read again.
-fn stop<S: Store + Drop>(mut worker: Worker<S>, fault: Fault) -> Ended {
+fn stop<S: Store + Drop>(mut worker: Worker<S>, fault: RunFault) -> Ended {
     let known = worker.stage();
     let (stage, has_journal) = match &find_journal(worker.store(), Trust::AnyFolder) {
         Ok((_, journal)) => (journal.stage, true),
@@ -393,19 +397,19 @@ fn stop<S: Store + Drop>(mut worker: Worker<S>, fault: Fault) -> Ended {
 }
 
 // The run that goes on from where it stopped.
-fn open<S: Store + Drop>(locked: Locked<S>, run: StoppedRun) -> Result<Worker<S>, Fault> {
+fn open<S: Store + Drop>(locked: Locked<S>, run: StoppedRun) -> Result<Worker<S>, RunFault> {
     let Locked(mut store) = locked;
     let StoppedRun {
         found,
         journal,
         trust,
     } = run;
-    let own = own_files_of(&mut store, &found, journal.origin, trust)?;
+    let files = run_files_of(&mut store, &found, journal.origin, trust)?;
     // A run may have been killed before the journal's name was on the disk. Nothing that comes now may be there without it.
     sync_directory(&mut store, "")?;
     let Journal { stage, work, .. } = journal;
-    need_ways(&mut store, &work)?;
-    let mut worker = Worker::at(store, own, work, stage)?;
+    need_no_symlinks_above(&mut store, &work)?;
+    let mut worker = Worker::at(store, files, work, stage)?;
     worker.take_directory()?;
     Ok(worker)
 }
@@ -414,13 +418,13 @@ fn open<S: Store + Drop>(locked: Locked<S>, run: StoppedRun) -> Result<Worker<S>
 fn go_on_or_back<S: Store + Drop>(mut worker: Worker<S>) -> Ended {
     match worker.finish() {
         Ok(()) => Ended::Done(worker.into_remarks()),
-        Err(Fault::Changed(page)) => turn_back(worker, Some(Fault::Changed(page))),
+        Err(RunFault::Changed(page)) => turn_back(worker, Some(RunFault::Changed(page))),
         Err(fault) => stop(worker, fault),
     }
 }
 
 // Goes back to the beginning.
-fn go_back<S: Store + Drop>(mut worker: Worker<S>, cause: Option<Fault>) -> Ended {
+fn go_back<S: Store + Drop>(mut worker: Worker<S>, cause: Option<RunFault>) -> Ended {
     match worker.finish() {
         Ok(()) => Ended::TakenBack {
             cause,

@@ -97,20 +97,20 @@ pub(crate) fn actions_of(
     stage: Stage,
 ) -> Result<Vec<Action<'_>>, AllocError> {
     match stage {
-        Stage::Writing => parts(alloc, &work.texts),
-        Stage::Staging => carried(alloc, &work.staged),
-        Stage::Making => made(alloc, &work.made),
-        Stage::Placing => carried(alloc, &work.placed),
-        Stage::Cleaning => cleaned(alloc, &work.cleaned),
-        Stage::Unplacing => unplaced(alloc, &work.placed),
-        Stage::Unmaking => unmade(alloc, &work.made),
-        Stage::Unstaging => unstaged(alloc, &work.staged),
-        Stage::Erasing => erased(alloc, &work.texts),
+        Stage::Writing => part_actions(alloc, &work.texts),
+        Stage::Staging => carry_actions(alloc, &work.staged),
+        Stage::Making => make_actions(alloc, &work.made),
+        Stage::Placing => carry_actions(alloc, &work.placed),
+        Stage::Cleaning => clean_actions(alloc, &work.cleaned),
+        Stage::Unplacing => unplace_actions(alloc, &work.placed),
+        Stage::Unmaking => unmake_actions(alloc, &work.made),
+        Stage::Unstaging => unstage_actions(alloc, &work.staged),
+        Stage::Erasing => erase_actions(alloc, &work.texts),
     }
 }
 
 // What gives things their staging names, or their new paths.
-fn carried(alloc: Global, renames: &[Rename]) -> Result<Vec<Action<'_>>, AllocError> {
+fn carry_actions(alloc: Global, renames: &[Rename]) -> Result<Vec<Action<'_>>, AllocError> {
     let mut actions = Vec::with_capacity(alloc, renames.len())?;
     for rename in renames {
         actions.push(Action::Carry(rename))?;
@@ -119,7 +119,7 @@ fn carried(alloc: Global, renames: &[Rename]) -> Result<Vec<Action<'_>>, AllocEr
 }
 
 // What gives things that are at their new paths their staging names again.
-fn unplaced(alloc: Global, placed: &[Rename]) -> Result<Vec<Action<'_>>, AllocError> {
+fn unplace_actions(alloc: Global, placed: &[Rename]) -> Result<Vec<Action<'_>>, AllocError> {
     let mut actions = Vec::with_capacity(alloc, placed.len())?;
     for rename in placed.iter().rev() {
         actions.push(Action::Unplace(rename))?;
@@ -128,7 +128,7 @@ fn unplaced(alloc: Global, placed: &[Rename]) -> Result<Vec<Action<'_>>, AllocEr
 }
 
 // What takes things that have their staging names back to their old paths.
-fn unstaged(alloc: Global, staged: &[Rename]) -> Result<Vec<Action<'_>>, AllocError> {
+fn unstage_actions(alloc: Global, staged: &[Rename]) -> Result<Vec<Action<'_>>, AllocError> {
     let mut actions = Vec::with_capacity(alloc, staged.len())?;
     for rename in staged.iter().rev() {
         actions.push(Action::Unstage(rename))?;
@@ -137,7 +137,7 @@ fn unstaged(alloc: Global, staged: &[Rename]) -> Result<Vec<Action<'_>>, AllocEr
 }
 
 // What makes directories.
-fn made(alloc: Global, paths: &[String]) -> Result<Vec<Action<'_>>, AllocError> {
+fn make_actions(alloc: Global, paths: &[String]) -> Result<Vec<Action<'_>>, AllocError> {
     let mut actions = Vec::with_capacity(alloc, paths.len())?;
     for path in paths {
         actions.push(Action::Make(path.as_str()))?;
@@ -146,7 +146,7 @@ fn made(alloc: Global, paths: &[String]) -> Result<Vec<Action<'_>>, AllocError> 
 }
 
 // What removes the directories that were made.
-fn unmade(alloc: Global, paths: &[String]) -> Result<Vec<Action<'_>>, AllocError> {
+fn unmake_actions(alloc: Global, paths: &[String]) -> Result<Vec<Action<'_>>, AllocError> {
     let mut actions = Vec::with_capacity(alloc, paths.len())?;
     for path in paths.iter().rev() {
         actions.push(Action::Unmake(path.as_str()))?;
@@ -155,7 +155,7 @@ fn unmade(alloc: Global, paths: &[String]) -> Result<Vec<Action<'_>>, AllocError
 }
 
 // What removes old texts and emptied directories.
-fn cleaned(alloc: Global, leftovers: &[Leftover]) -> Result<Vec<Action<'_>>, AllocError> {
+fn clean_actions(alloc: Global, leftovers: &[Leftover]) -> Result<Vec<Action<'_>>, AllocError> {
     let mut actions = Vec::with_capacity(alloc, leftovers.len())?;
     for leftover in leftovers {
         actions.push(match leftover {
@@ -167,7 +167,7 @@ fn cleaned(alloc: Global, leftovers: &[Leftover]) -> Result<Vec<Action<'_>>, All
 }
 
 // What removes the new texts.
-fn erased(alloc: Global, texts: &[TextFile]) -> Result<Vec<Action<'_>>, AllocError> {
+fn erase_actions(alloc: Global, texts: &[TextFile]) -> Result<Vec<Action<'_>>, AllocError> {
     let mut actions = Vec::with_capacity(alloc, texts.len())?;
     for text in texts {
         actions.push(Action::RemoveText(text))?;
@@ -176,7 +176,7 @@ fn erased(alloc: Global, texts: &[TextFile]) -> Result<Vec<Action<'_>>, AllocErr
 }
 
 // What removes the new texts that may be written in part.
-fn parts(alloc: Global, texts: &[TextFile]) -> Result<Vec<Action<'_>>, AllocError> {
+fn part_actions(alloc: Global, texts: &[TextFile]) -> Result<Vec<Action<'_>>, AllocError> {
     let mut actions = Vec::with_capacity(alloc, texts.len())?;
     for (number, text) in texts.iter().enumerate() {
         actions.push(Action::RemovePart(number, text))?;

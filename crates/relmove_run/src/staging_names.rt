@@ -1,17 +1,17 @@
 //! The names that a run gives in its own directory.
 //!
-//! The steps of a plan name what moves by labels: `.relmove-1`, `.relmove-2` and so on, and a new text by one next to its
+//! The actions of a plan name what moves by labels: `.relmove-1`, `.relmove-2` and so on, and a new text by one next to its
 //! page. The number of a label is the staging name's: `.relmove-run/1` stands for `.relmove-1`. A new text is written at its
 //! staging name at once.
-use relmove_actions::{NewText, Rename, STAGING, Steps};
-use relmove_journal::{OWN_DIRECTORY, join, name_of};
+use relmove_actions::{Actions, NewText, Rename, STAGING};
+use relmove_journal::{RUN_DIRECTORY, join, name_of};
 use std::alloc::{AllocError, Global};
 use std::collections::BTreeMap;
 
 // The path that a run has for one of a plan that may begin with a label. Allocates it.
 pub(crate) fn staging_path(alloc: Global, path: &str) -> Result<String, AllocError> {
     match path.strip_prefix(STAGING) {
-        Some(below) => join(alloc, OWN_DIRECTORY, below),
+        Some(below) => join(alloc, RUN_DIRECTORY, below),
         None => String::from_str(alloc, path),
     }
 }
@@ -21,35 +21,38 @@ pub(crate) fn text_path(alloc: Global, file: &str) -> Result<String, AllocError>
     staging_path(alloc, name_of(file))
 }
 
-// Whether a plan gives a new text a name in between.
+// Whether a plan gives a new text a label by this rename.
 pub(crate) fn is_of_text(rename: &Rename) -> bool {
     name_of(rename.from.as_str()).starts_with(STAGING)
 }
 
-// The steps of a plan with staging names in the place of labels. No new text is renamed before it is placed.
+// The actions of a plan with staging names in the place of labels. No new text is renamed before it is placed.
 //
 // Allocates its paths.
-pub(crate) fn with_staging_names(alloc: Global, steps: Steps) -> Result<Steps, AllocError> {
-    let Steps {
+pub(crate) fn with_staging_names(alloc: Global, actions: Actions) -> Result<Actions, AllocError> {
+    let Actions {
         texts,
-        apart,
+        staged,
         made,
-        together,
+        placed,
         removed,
         emptied,
-    } = steps;
-    Ok(Steps {
-        texts: written(alloc, texts)?,
+    } = actions;
+    Ok(Actions {
+        texts: texts_at_staging_names(alloc, texts)?,
         made: paths(alloc, &made)?,
-        together: placed(alloc, together, &apart)?,
-        apart: staged(alloc, apart)?,
+        placed: renames_from_staging_names(alloc, placed, &staged)?,
+        staged: renames_to_staging_names(alloc, staged)?,
         removed: paths(alloc, &removed)?,
         emptied,
     })
 }
 
 // New texts at their staging names.
-fn written(alloc: Global, mut texts: Vec<NewText>) -> Result<Vec<NewText>, AllocError> {
+fn texts_at_staging_names(
+    alloc: Global,
+    mut texts: Vec<NewText>,
+) -> Result<Vec<NewText>, AllocError> {
     for text in texts.iter_mut() {
         text.file = text_path(alloc, text.file.as_str())?;
     }
@@ -66,42 +69,42 @@ fn paths(alloc: Global, labels: &[String]) -> Result<Vec<String>, AllocError> {
 }
 
 // What gives things their staging names, without the new texts.
-fn staged(alloc: Global, apart: Vec<Rename>) -> Result<Vec<Rename>, AllocError> {
-    let mut staged = Vec::with_capacity(alloc, apart.len())?;
-    for rename in apart {
+fn renames_to_staging_names(alloc: Global, staged: Vec<Rename>) -> Result<Vec<Rename>, AllocError> {
+    let mut renames = Vec::with_capacity(alloc, staged.len())?;
+    for rename in staged {
         if !is_of_text(&rename) {
             let Rename { from, to } = rename;
-            staged.push(Rename {
+            renames.push(Rename {
                 from,
                 to: staging_path(alloc, to.as_str())?,
             })?;
         }
     }
-    Ok(staged)
+    Ok(renames)
 }
 
 // What takes things from their staging names to their new paths. A new text has the one at which it is written.
-fn placed(
+fn renames_from_staging_names(
     alloc: Global,
-    together: Vec<Rename>,
-    apart: &[Rename],
+    placed: Vec<Rename>,
+    staged: &[Rename],
 ) -> Result<Vec<Rename>, AllocError> {
-    let files = files_of(alloc, apart)?;
-    let mut placed = Vec::with_capacity(alloc, together.len())?;
-    for Rename { from, to } in together {
+    let files = files_of(alloc, staged)?;
+    let mut renames = Vec::with_capacity(alloc, placed.len())?;
+    for Rename { from, to } in placed {
         let from = match files.get(from.as_str()) {
             Some(file) => text_path(alloc, file)?,
             None => staging_path(alloc, from.as_str())?,
         };
-        placed.push(Rename { from, to })?;
+        renames.push(Rename { from, to })?;
     }
-    Ok(placed)
+    Ok(renames)
 }
 
 // The files of new texts, by the labels that a plan gives them.
-fn files_of(alloc: Global, apart: &[Rename]) -> Result<BTreeMap<&str, &str>, AllocError> {
+fn files_of(alloc: Global, staged: &[Rename]) -> Result<BTreeMap<&str, &str>, AllocError> {
     let mut files = BTreeMap::new(alloc);
-    for rename in apart {
+    for rename in staged {
         if is_of_text(rename) {
             files.insert(rename.to.as_str(), rename.from.as_str())?;
         }

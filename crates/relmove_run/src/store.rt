@@ -31,7 +31,7 @@ pub struct Found {
     /// Its number on the device. A copy of the thing has another one.
     pub inode: u64,
     /// How many names it has.
-    pub links: u64,
+    pub names: u64,
     /// How many bytes a file has.
     pub length: u64,
     /// Its permissions: the lowest twelve bits of its mode.
@@ -124,7 +124,7 @@ pub trait Store {
     fn list(&mut self, path: &str) -> io::Result<Names>;
 
     /// The path that is written in a symbolic link, or `None` if it isn't UTF-8.
-    fn read_link(&mut self, path: &str) -> io::Result<Option<String>>;
+    fn read_symlink(&mut self, path: &str) -> io::Result<Option<String>>;
 
     /// The bytes of a regular file. Fails without opening it if something else is there.
     fn read(&mut self, path: &str) -> io::Result<Vec<u8>>;
@@ -160,7 +160,7 @@ pub trait Store {
     fn rename(&mut self, from: &str, to: &str) -> io::Result<()>;
 
     /// Gives a file a second name. Fails if something is there.
-    fn link(&mut self, from: &str, to: &str) -> io::Result<()>;
+    fn hard_link(&mut self, from: &str, to: &str) -> io::Result<()>;
 
     /// Makes a directory with at most these permissions, whose owner may list it, change it and use its names. Fails if
     /// something is there.

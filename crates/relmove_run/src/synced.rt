@@ -1,6 +1,6 @@
 //! Syncs the directories in which a stage of a run changed names, and removes the names that a loss of power kept there.
-use crate::actions::{Ways, remove_second_name, sync_directory};
-use crate::fault::Fault;
+use crate::disk::{Above, remove_second_name, sync_directory};
+use crate::fault::RunFault;
 use crate::stages::{Action, actions_of};
 use crate::store::Store;
 use relmove_journal::{Stage, Work, directory_of, join, name_of};
@@ -8,7 +8,11 @@ use std::alloc::{AllocError, Global};
 use std::collections::{BTreeMap, BTreeSet};
 
 // Waits until all that a stage did to names is on the disk.
-pub(crate) fn sync_stage<S: Store>(store: &mut S, work: &Work, stage: Stage) -> Result<(), Fault> {
+pub(crate) fn sync_stage<S: Store>(
+    store: &mut S,
+    work: &Work,
+    stage: Stage,
+) -> Result<(), RunFault> {
     for directory in &directories_of(store.alloc(), work, stage)? {
         sync_directory(store, directory.as_str())?;
     }
@@ -19,12 +23,12 @@ pub(crate) fn sync_stage<S: Store>(store: &mut S, work: &Work, stage: Stage) -> 
 // which such a name is may have left too.
 pub(crate) fn remove_left_names<S: Store>(
     store: &mut S,
-    ways: &mut Ways,
+    above: &mut Above,
     work: &Work,
     stage: Stage,
-) -> Result<(), Fault> {
+) -> Result<(), RunFault> {
     for (path, kept) in &left_names_of(store.alloc(), work, stage)? {
-        remove_second_name(store, ways, path.as_str(), kept)?;
+        remove_second_name(store, above, path.as_str(), kept)?;
     }
     Ok(())
 }

@@ -1,15 +1,15 @@
 //! Does the work of a run, from any stage on. Each step asks first whether it is done.
-use crate::actions::{
-    OwnFile, PageChange, Ways, Written, are_names_of_one_file, carry, copy_of, digest_at,
-    digest_found, find, find_to_remove, is_there, make_directory, need_own_directory,
+use crate::disk::{
+    Above, PageChange, RunFile, Written, are_names_of_one_file, carry, copy_of, digest_at,
+    digest_of_found, find, find_to_remove, is_there, make_directory, need_run_directory,
     remove_directory, remove_file, unmake_directory, write_text,
 };
-use crate::fault::Fault;
+use crate::fault::RunFault;
 use crate::near::look_near;
-use crate::own_files::{
-    OwnFiles, make_own_directory, need_untaken, put_first, put_next, remove_all, take_directory,
-};
 use crate::remark::Remark;
+use crate::run_files::{
+    RunFiles, make_run_directory, need_untaken, put_first, put_next, remove_all, take_directory,
+};
 use crate::stages::{Action, MOST_STAGES, actions_of, next_stage};
 use crate::store::{Found, FoundKind, Store};
 use crate::synced::{remove_left_names, sync_stage};
@@ -22,31 +22,31 @@ use std::io::ErrorKind;
 #[derive(Drop)]
 pub(crate) struct Worker<S: Drop> {
     store: S,
-    own: OwnFiles,
+    files: RunFiles,
     work: Work,
     stage: Stage,
     // The files of the first new texts, which the run may have made.
     written: Vec<Written>,
     // Whether a loss of power may have kept both names of a file that was renamed.
     may_have_both_names: bool,
-    // The directories on the ways to paths.
-    ways: Ways,
+    // The directories above paths.
+    above: Above,
     remarks: Vec<Remark>,
 }
 
 impl<S: Store + Drop> Worker<S> {
     // A run that begins.
-    pub(crate) fn new(store: S, own: OwnFiles, work: Work) -> Worker<S> {
+    pub(crate) fn new(store: S, files: RunFiles, work: Work) -> Worker<S> {
         let (written, remarks) = (Vec::new(store.alloc()), Vec::new(store.alloc()));
-        let ways = Ways::new(store.alloc());
+        let above = Above::new(store.alloc());
         Worker {
             store,
-            own,
+            files,
             work,
             stage: Stage::Writing,
             written,
             may_have_both_names: false,
-            ways,
+            above,
             remarks,
         }
     }
@@ -54,7 +54,7 @@ impl<S: Store + Drop> Worker<S> {
     // A run whose journal says that it is at this stage. Allocates a list as long as that of its texts.
     pub(crate) fn at(
         store: S,
-        own: OwnFiles,
+        files: RunFiles,
         work: Work,
         stage: Stage,
     ) -> Result<Worker<S>, AllocError> {
@@ -63,18 +63,18 @@ impl<S: Store + Drop> Worker<S> {
             written.push(Written::UNKNOWN)?;
         }
         let remarks = Vec::new(store.alloc());
-        let mut ways = Ways::new(store.alloc());
-        if let Some(inode) = own.directory() {
-            ways.set_own(inode);
+        let mut above = Above::new(store.alloc());
+        if let Some(inode) = files.directory() {
+            above.set_run_directory(inode);
         }
         Ok(Worker {
             store,
-            own,
+            files,
             work,
             stage,
             written,
             may_have_both_names: true,
-            ways,
+            above,
             remarks,
         })
     }
@@ -86,7 +86,7 @@ impl<S: Store + Drop> Worker<S> {
 
     // Whether the root may have the run's journal. If it hasn't, the run has changed nothing.
     pub(crate) fn may_have_journal(&self) -> bool {
-        self.own.may_have_journal()
+        self.files.may_have_journal()
     }
 
     // How far the run is.
@@ -100,39 +100,39 @@ impl<S: Store + Drop> Worker<S> {
     }
 
     // Makes the run's own directory, and puts the first journal in its place.
-    pub(crate) fn begin(&mut self) -> Result<(), Fault> {
-        let inode = make_own_directory(&mut self.store, &mut self.own)?;
-        self.ways.set_own(inode);
-        put_first(&mut self.store, &mut self.own, &self.work)
+    pub(crate) fn begin(&mut self) -> Result<(), RunFault> {
+        let inode = make_run_directory(&mut self.store, &mut self.files)?;
+        self.above.set_run_directory(inode);
+        put_first(&mut self.store, &mut self.files, &self.work)
     }
 
     // Fails if a directory above the root, or one of these below it, has another journal of the user whose run this is. Notes
     // those of other users.
-    pub(crate) fn look_near(&mut self, directories: &[&str]) -> Result<(), Fault> {
-        let user = self.own.owner();
+    pub(crate) fn look_near(&mut self, directories: &[&str]) -> Result<(), RunFault> {
+        let user = self.files.owner();
         look_near(&mut self.store, directories, user, &mut self.remarks)
     }
 
     // Takes the directory of a run that stopped.
-    pub(crate) fn take_directory(&mut self) -> Result<(), Fault> {
-        take_directory(&mut self.store, &mut self.ways, &mut self.own)
+    pub(crate) fn take_directory(&mut self) -> Result<(), RunFault> {
+        take_directory(&mut self.store, &mut self.above, &mut self.files)
     }
 
     // Ends a stage, and puts the journal of the next one in its place. The run is at that stage if the call returns
     // `Ok`. Otherwise the journal may say either stage.
-    pub(crate) fn enter(&mut self, stage: Stage) -> Result<(), Fault> {
-        need_untaken(&mut self.store, &self.own)?;
+    pub(crate) fn enter(&mut self, stage: Stage) -> Result<(), RunFault> {
+        need_untaken(&mut self.store, &self.files)?;
         sync_stage(&mut self.store, &self.work, self.stage)?;
-        put_next(&mut self.store, &mut self.own, stage, &self.work)?;
+        put_next(&mut self.store, &mut self.files, stage, &self.work)?;
         self.stage = stage;
         Ok(())
     }
 
     // Writes the new texts.
-    pub(crate) fn write_texts(&mut self, changes: &[PageChange]) -> Result<(), Fault> {
+    pub(crate) fn write_texts(&mut self, changes: &[PageChange]) -> Result<(), RunFault> {
         for change in changes {
             let mut written = Written::NONE;
-            let outcome = write_text(&mut self.store, &mut self.ways, change, &mut written);
+            let outcome = write_text(&mut self.store, &mut self.above, change, &mut written);
             self.written.push(written)?;
             outcome?;
         }
@@ -141,7 +141,7 @@ impl<S: Store + Drop> Worker<S> {
 
     // Does what is left of the run's stage and of those after it, and ends the run. At the stages `writing` and `erasing`
     // this needs no room on the disk.
-    pub(crate) fn finish(&mut self) -> Result<(), Fault> {
+    pub(crate) fn finish(&mut self) -> Result<(), RunFault> {
         self.do_stage()?;
         for _ in 0..MOST_STAGES {
             let Some(next) = next_stage(self.stage) else {
@@ -154,16 +154,16 @@ impl<S: Store + Drop> Worker<S> {
     }
 
     // Does the actions of the run's stage.
-    fn do_stage(&mut self) -> Result<(), Fault> {
-        if needs_own_directory(self.stage) {
-            need_own_directory(&mut self.store, &self.ways)?;
+    fn do_stage(&mut self) -> Result<(), RunFault> {
+        if needs_run_directory(self.stage) {
+            need_run_directory(&mut self.store, &self.above)?;
         }
         if self.stage == Stage::Placing {
             self.need_new_texts()?;
         }
         act_at(
             &mut self.store,
-            &mut self.ways,
+            &mut self.above,
             &self.work,
             &self.written,
             self.stage,
@@ -180,40 +180,40 @@ impl<S: Store + Drop> Worker<S> {
     }
 
     // Removes the names that a loss of power kept of what has its staging name.
-    fn remove_left_names(&mut self) -> Result<(), Fault> {
+    fn remove_left_names(&mut self) -> Result<(), RunFault> {
         if self.may_have_both_names {
-            remove_left_names(&mut self.store, &mut self.ways, &self.work, self.stage)?;
+            remove_left_names(&mut self.store, &mut self.above, &self.work, self.stage)?;
         }
         Ok(())
     }
 
     // Removes the run's own files.
-    fn end(&mut self) -> Result<(), Fault> {
+    fn end(&mut self) -> Result<(), RunFault> {
         sync_stage(&mut self.store, &self.work, self.stage)?;
-        remove_all(&mut self.store, &mut self.own, &mut self.remarks)
+        remove_all(&mut self.store, &mut self.files, &mut self.remarks)
     }
 
     // Fails if what has the staging name of a new text isn't this text.
-    fn need_new_texts(&mut self) -> Result<(), Fault> {
+    fn need_new_texts(&mut self) -> Result<(), RunFault> {
         for text in &self.work.texts {
             let path = text.path.as_str();
             if let Some(found) = find(&mut self.store, path)?
-                && digest_found(&mut self.store, path, &found)? != Some(text.digest)
+                && digest_of_found(&mut self.store, path, &found)? != Some(text.digest)
             {
-                return Err(Fault::OtherText(copy_of(&self.store, path)?));
+                return Err(RunFault::OtherText(copy_of(&self.store, path)?));
             }
         }
         Ok(())
     }
 
     // Fails if the text of a page that changes isn't the one that was read.
-    fn need_old_texts(&mut self) -> Result<(), Fault> {
+    fn need_old_texts(&mut self) -> Result<(), RunFault> {
         for leftover in &self.work.cleaned {
             if let Leftover::Text(file) = leftover
                 && digest_at(&mut self.store, file.path.as_str())? != Some(file.digest)
             {
                 let page = old_path(&self.work.staged, file.path.as_str());
-                return Err(Fault::Changed(copy_of(&self.store, page)?));
+                return Err(RunFault::Changed(copy_of(&self.store, page)?));
             }
         }
         Ok(())
@@ -221,7 +221,7 @@ impl<S: Store + Drop> Worker<S> {
 }
 
 // Whether something may have a staging name during a stage. At the others the run's own directory may be gone already.
-fn needs_own_directory(stage: Stage) -> bool {
+fn needs_run_directory(stage: Stage) -> bool {
     match stage {
         Stage::Staging | Stage::Making | Stage::Placing => true,
         Stage::Unplacing | Stage::Unmaking | Stage::Unstaging => true,
@@ -240,14 +240,14 @@ fn old_path<'a>(staged: &'a [Rename], name: &'a str) -> &'a str {
 // Does the actions of a stage.
 fn act_at<S: Store>(
     store: &mut S,
-    ways: &mut Ways,
+    above: &mut Above,
     work: &Work,
     written: &[Written],
     stage: Stage,
     remarks: &mut Vec<Remark>,
-) -> Result<(), Fault> {
+) -> Result<(), RunFault> {
     for action in &actions_of(store.alloc(), work, stage)? {
-        act(store, ways, work, written, *action, remarks)?;
+        act(store, above, work, written, *action, remarks)?;
     }
     Ok(())
 }
@@ -255,24 +255,24 @@ fn act_at<S: Store>(
 // Does an action, unless that is done.
 fn act<S: Store>(
     store: &mut S,
-    ways: &mut Ways,
+    above: &mut Above,
     work: &Work,
     written: &[Written],
     action: Action<'_>,
     remarks: &mut Vec<Remark>,
-) -> Result<(), Fault> {
+) -> Result<(), RunFault> {
     match action {
-        Action::Carry(rename) => carry(store, ways, rename.from.as_str(), rename.to.as_str()),
-        Action::Unplace(rename) => unplace(store, ways, rename, remarks),
-        Action::Unstage(rename) => unstage(store, ways, work, rename, remarks),
-        Action::Make(path) => make_directory(store, ways, path),
-        Action::Unmake(path) => unmake_directory(store, ways, path),
-        Action::RemoveText(text) => remove_text(store, ways, text, remarks),
+        Action::Carry(rename) => carry(store, above, rename.from.as_str(), rename.to.as_str()),
+        Action::Unplace(rename) => unplace(store, above, rename, remarks),
+        Action::Unstage(rename) => unstage(store, above, work, rename, remarks),
+        Action::Make(path) => make_directory(store, above, path),
+        Action::Unmake(path) => unmake_directory(store, above, path),
+        Action::RemoveText(text) => remove_text(store, above, text, remarks),
         Action::RemovePart(number, text) => match written.get(number) {
-            Some(written) => remove_part(store, ways, text, *written, remarks),
+            Some(written) => remove_part(store, above, text, *written, remarks),
             None => Ok(()),
         },
-        Action::RemoveEmptied(path) => remove_emptied(store, ways, path, remarks),
+        Action::RemoveEmptied(path) => remove_emptied(store, above, path, remarks),
     }
 }
 
@@ -280,13 +280,13 @@ fn act<S: Store>(
 // then, this is noted: the journal doesn't say which of the two is the run's.
 fn unplace<S: Store>(
     store: &mut S,
-    ways: &mut Ways,
+    above: &mut Above,
     rename: &Rename,
     remarks: &mut Vec<Remark>,
-) -> Result<(), Fault> {
+) -> Result<(), RunFault> {
     let (from, to) = (rename.from.as_str(), rename.to.as_str());
     let Some(found) = find(store, from)? else {
-        return carry_back(store, ways, rename, remarks);
+        return carry_back(store, above, rename, remarks);
     };
     if let Some(other) = find(store, to)?
         && !are_names_of_one_file(&found, &other)
@@ -300,16 +300,16 @@ fn unplace<S: Store>(
 // Takes back a rename, unless that is done. Notes what is at neither path.
 fn carry_back<S: Store>(
     store: &mut S,
-    ways: &mut Ways,
+    above: &mut Above,
     rename: &Rename,
     remarks: &mut Vec<Remark>,
-) -> Result<(), Fault> {
+) -> Result<(), RunFault> {
     let (from, to) = (rename.from.as_str(), rename.to.as_str());
     if is_there(store, to)? {
-        return carry(store, ways, to, from);
+        return carry(store, above, to, from);
     }
     if !is_there(store, from)? {
-        need_own_directory(store, ways)?;
+        need_run_directory(store, above)?;
         let (from, to) = (copy_of(store, from)?, copy_of(store, to)?);
         remarks.push(Remark::Gone { from, to })?;
     }
@@ -320,13 +320,13 @@ fn carry_back<S: Store>(
 // staging name isn't the run's: it stays, and this is noted.
 fn unstage<S: Store>(
     store: &mut S,
-    ways: &mut Ways,
+    above: &mut Above,
     work: &Work,
     rename: &Rename,
     remarks: &mut Vec<Remark>,
-) -> Result<(), Fault> {
-    let back = carry_back(store, ways, rename, remarks);
-    if let Err(Fault::Both { .. }) = &back
+) -> Result<(), RunFault> {
+    let back = carry_back(store, above, rename, remarks);
+    if let Err(RunFault::Both { .. }) = &back
         && is_back(store, work, rename)?
     {
         return Ok(remarks.push(Remark::Kept(copy_of(store, rename.to.as_str())?))?);
@@ -335,7 +335,7 @@ fn unstage<S: Store>(
 }
 
 // Whether a text of the run is at the old path of a rename.
-fn is_back<S: Store>(store: &mut S, work: &Work, rename: &Rename) -> Result<bool, Fault> {
+fn is_back<S: Store>(store: &mut S, work: &Work, rename: &Rename) -> Result<bool, RunFault> {
     match digest_of(work, rename) {
         Some(digest) => Ok(digest_at(store, rename.from.as_str())? == Some(digest)),
         None => Ok(false),
@@ -357,16 +357,16 @@ fn digest_of(work: &Work, rename: &Rename) -> Option<TextDigest> {
 // Removes a text of the run, unless it has changed: then it stays, and this is noted.
 fn remove_text<S: Store>(
     store: &mut S,
-    ways: &mut Ways,
+    above: &mut Above,
     text: &TextFile,
     remarks: &mut Vec<Remark>,
-) -> Result<(), Fault> {
+) -> Result<(), RunFault> {
     let path = text.path.as_str();
     let Some(found) = find_to_remove(store, path)? else {
         return Ok(());
     };
-    if digest_found(store, path, &found)? == Some(text.digest) {
-        return remove_file(store, ways, path);
+    if digest_of_found(store, path, &found)? == Some(text.digest) {
+        return remove_file(store, above, path);
     }
     Ok(remarks.push(Remark::Kept(copy_of(store, path)?))?)
 }
@@ -375,12 +375,12 @@ fn remove_text<S: Store>(
 // place and its length, and a whole text by its digest.
 fn remove_part<S: Store>(
     store: &mut S,
-    ways: &mut Ways,
+    above: &mut Above,
     text: &TextFile,
     written: Written,
     remarks: &mut Vec<Remark>,
-) -> Result<(), Fault> {
-    if written.own == OwnFile::None {
+) -> Result<(), RunFault> {
+    if written.file == RunFile::None {
         return Ok(());
     }
     let path = text.path.as_str();
@@ -388,20 +388,20 @@ fn remove_part<S: Store>(
         return Ok(());
     };
     if may_be_part(store, text, written, &found) {
-        return remove_file(store, ways, path);
+        return remove_file(store, above, path);
     }
-    remove_text(store, ways, text, remarks)
+    remove_text(store, above, text, remarks)
 }
 
 // Whether what is found may be a part of a text that the run wrote. A file that a killed run made is whole only if it has
 // its permissions: before, it can't be read.
 fn may_be_part<S: Store>(store: &mut S, text: &TextFile, written: Written, found: &Found) -> bool {
-    let is_own = match written.own {
-        OwnFile::Unknown => found.kind == FoundKind::File,
-        own => own.is(found),
+    let is_run_file = match written.file {
+        RunFile::Unknown => found.kind == FoundKind::File,
+        file => file.is(found),
     };
     let length = text.digest.length;
-    is_own
+    is_run_file
         && !written.is_whole
         && (found.length < length || found.length == length && !can_read(store, text.path.as_str()))
 }
@@ -417,13 +417,13 @@ fn can_read<S: Store>(store: &mut S, path: &str) -> bool {
 // Removes a directory that the run emptied. If it can't be removed, it stays, and this is noted, unless something is in it.
 fn remove_emptied<S: Store>(
     store: &mut S,
-    ways: &mut Ways,
+    above: &mut Above,
     path: &str,
     remarks: &mut Vec<Remark>,
-) -> Result<(), Fault> {
-    match remove_directory(store, ways, path) {
+) -> Result<(), RunFault> {
+    match remove_directory(store, above, path) {
         Ok(()) => Ok(()),
-        Err(Fault::OutOfMemory) => Err(Fault::OutOfMemory),
+        Err(RunFault::OutOfMemory) => Err(RunFault::OutOfMemory),
         // A call may report a failure after it removed the directory, and another one than that it isn't empty.
         Err(why) => match is_there(store, path) {
             Ok(false) => Ok(()),

@@ -1,9 +1,9 @@
-//! Trees and the steps of moves in them, by hand.
-use relmove_actions::{NewText, Rename, Steps};
+//! Trees and the actions of moves in them, by hand.
+use relmove_actions::{Actions, NewText, Rename};
 use relmove_disk::Place;
 use std::alloc::{AllocError, Global};
 
-/// A tree, the steps of moves in it, and the tree after them. No two files have one text.
+/// A tree, the actions of moves in it, and the tree after them. No two files have one text.
 #[derive(Clone, Copy)]
 pub struct Case {
     pub name: &'static str,
@@ -11,9 +11,9 @@ pub struct Case {
     pub after: &'static [Place],
     /// Page, new file, new text.
     pub texts: &'static [(&'static str, &'static str, &'static str)],
-    pub apart: &'static [(&'static str, &'static str)],
+    pub staged: &'static [(&'static str, &'static str)],
     pub made: &'static [&'static str],
-    pub together: &'static [(&'static str, &'static str)],
+    pub placed: &'static [(&'static str, &'static str)],
     pub removed: &'static [&'static str],
     pub emptied: &'static [&'static str],
 }
@@ -28,9 +28,9 @@ pub const FILE_MOVES: Case = Case {
         ("b/c/z.md", Some("xx")),
     ],
     texts: &[],
-    apart: &[("a/x.md", ".relmove-1")],
+    staged: &[("a/x.md", ".relmove-1")],
     made: &["b", "b/c"],
-    together: &[(".relmove-1", "b/c/z.md")],
+    placed: &[(".relmove-1", "b/c/z.md")],
     removed: &[],
     emptied: &["a"],
 };
@@ -50,9 +50,9 @@ pub const DIRECTORY_MOVES: Case = Case {
         ("c/b/y", Some("yy")),
     ],
     texts: &[],
-    apart: &[("a", ".relmove-1")],
+    staged: &[("a", ".relmove-1")],
     made: &[],
-    together: &[(".relmove-1", "c")],
+    placed: &[(".relmove-1", "c")],
     removed: &[],
     emptied: &[],
 };
@@ -62,9 +62,9 @@ pub const SWAP: Case = Case {
     before: &[("a", Some("aa")), ("b", Some("bb"))],
     after: &[("b", Some("aa")), ("a", Some("bb"))],
     texts: &[],
-    apart: &[("a", ".relmove-1"), ("b", ".relmove-2")],
+    staged: &[("a", ".relmove-1"), ("b", ".relmove-2")],
     made: &[],
-    together: &[(".relmove-1", "b"), (".relmove-2", "a")],
+    placed: &[(".relmove-1", "b"), (".relmove-2", "a")],
     removed: &[],
     emptied: &[],
 };
@@ -84,13 +84,13 @@ pub const CHAIN: Case = Case {
         ("d", Some("cc")),
     ],
     texts: &[],
-    apart: &[
+    staged: &[
         ("a", ".relmove-1"),
         ("b", ".relmove-2"),
         ("c", ".relmove-3"),
     ],
     made: &[],
-    together: &[
+    placed: &[
         (".relmove-1", "b"),
         (".relmove-2", "c"),
         (".relmove-3", "d"),
@@ -108,13 +108,13 @@ pub const PAGE_CHANGES: Case = Case {
         ("y/x.md", Some("xx")),
     ],
     texts: &[("a.md", ".relmove-9", "[x](y/x.md) more")],
-    apart: &[
+    staged: &[
         ("a.md", ".relmove-1"),
         (".relmove-9", ".relmove-2"),
         ("x.md", ".relmove-3"),
     ],
     made: &["y"],
-    together: &[(".relmove-2", "a.md"), (".relmove-3", "y/x.md")],
+    placed: &[(".relmove-2", "a.md"), (".relmove-3", "y/x.md")],
     removed: &[".relmove-1"],
     emptied: &[],
 };
@@ -124,14 +124,14 @@ pub const TWO_PAGES_CHANGE: Case = Case {
     before: &[("a.md", Some("aa")), ("b.md", Some("bb"))],
     after: &[("a.md", Some("aaa")), ("b.md", Some("bbb"))],
     texts: &[("a.md", ".relmove-8", "aaa"), ("b.md", ".relmove-9", "bbb")],
-    apart: &[
+    staged: &[
         ("a.md", ".relmove-1"),
         (".relmove-8", ".relmove-2"),
         ("b.md", ".relmove-3"),
         (".relmove-9", ".relmove-4"),
     ],
     made: &[],
-    together: &[(".relmove-2", "a.md"), (".relmove-4", "b.md")],
+    placed: &[(".relmove-2", "a.md"), (".relmove-4", "b.md")],
     removed: &[".relmove-1", ".relmove-3"],
     emptied: &[],
 };
@@ -152,13 +152,13 @@ pub const PAGE_IN_A_DIRECTORY: Case = Case {
         ("x", Some("xx")),
     ],
     texts: &[("docs/a.md", "docs/.relmove-9", "[x](../../x)")],
-    apart: &[
+    staged: &[
         ("docs/a.md", ".relmove-1"),
         ("docs/.relmove-9", ".relmove-2"),
         ("docs", ".relmove-3"),
     ],
     made: &["in"],
-    together: &[(".relmove-3", "in/docs"), (".relmove-2", "in/docs/a.md")],
+    placed: &[(".relmove-3", "in/docs"), (".relmove-2", "in/docs/a.md")],
     removed: &[".relmove-1"],
     emptied: &[],
 };
@@ -180,14 +180,14 @@ pub const PAGE_LEAVES: Case = Case {
         ("c/in/b", Some("bb")),
     ],
     texts: &[("docs/in/a.md", "docs/in/.relmove-9", "[b](c/in/b)")],
-    apart: &[
+    staged: &[
         ("docs/in/a.md", ".relmove-1"),
         ("docs/in/.relmove-9", ".relmove-2"),
         ("c.md", ".relmove-3"),
         ("docs", ".relmove-4"),
     ],
     made: &[],
-    together: &[
+    placed: &[
         (".relmove-2", "a.md"),
         (".relmove-4", "c"),
         (".relmove-3", "c/in/a.md"),
@@ -206,21 +206,21 @@ pub const INTO_A_MOVED_DIRECTORY: Case = Case {
         ("c/d/x", Some("xx")),
     ],
     texts: &[],
-    apart: &[("x", ".relmove-1"), ("a", ".relmove-2")],
+    staged: &[("x", ".relmove-1"), ("a", ".relmove-2")],
     made: &[".relmove-2/d"],
-    together: &[(".relmove-2", "c"), (".relmove-1", "c/d/x")],
+    placed: &[(".relmove-2", "c"), (".relmove-1", "c/d/x")],
     removed: &[],
     emptied: &[],
 };
 
 impl Case {
-    /// The steps.
-    pub fn steps(&self, alloc: Global) -> Result<Steps, AllocError> {
-        Ok(Steps {
+    /// The actions.
+    pub fn actions(&self, alloc: Global) -> Result<Actions, AllocError> {
+        Ok(Actions {
             texts: texts_of(alloc, self.texts)?,
-            apart: renames_of(alloc, self.apart)?,
+            staged: renames_of(alloc, self.staged)?,
             made: paths_of(alloc, self.made)?,
-            together: renames_of(alloc, self.together)?,
+            placed: renames_of(alloc, self.placed)?,
             removed: paths_of(alloc, self.removed)?,
             emptied: paths_of(alloc, self.emptied)?,
         })

@@ -1,6 +1,6 @@
 //! How a call ended, and why.
 use crate::comparison::same;
-use relmove_run::{Ended, Fault, Remark, Stage};
+use relmove_run::{Ended, Remark, RunFault, Stage};
 use std::alloc::Global;
 use std::test::Fail;
 
@@ -38,7 +38,7 @@ pub fn is_changed(ended: &Ended) -> bool {
     matches!(
         ended,
         Ended::TakenBack {
-            cause: Some(Fault::Changed(_)),
+            cause: Some(RunFault::Changed(_)),
             ..
         }
     )
@@ -52,16 +52,32 @@ fn refusal(alloc: Global, ended: &Ended) -> Result<String, Fail> {
     }
 }
 
+/// Whether a call ended so.
+pub fn ends_as(case: &str, ended: Result<Box<Ended>, Fail>, expected: End) -> Result<(), Fail> {
+    let ended = ended?;
+    same(case, &end_of(&ended), &expected)
+}
+
 /// Whether a call was refused for this reason.
-pub fn gives_reason(alloc: Global, ended: &Ended, reason: &str) -> Result<(), Fail> {
-    same("a refusal", &refusal(alloc, ended)?.as_str(), &reason)
+pub fn gives_reason(
+    alloc: Global,
+    ended: Result<Box<Ended>, Fail>,
+    reason: &str,
+) -> Result<(), Fail> {
+    let found = refusal(alloc, &*ended?)?;
+    same("a refusal", &found.as_str(), &reason)
+}
+
+// Why a call stopped, or an empty text.
+fn stop(alloc: Global, ended: &Ended) -> Result<String, Fail> {
+    match ended {
+        Ended::Stopped { fault, .. } => Ok(format!(in alloc; "{fault}")?),
+        _ => Ok(String::new(alloc)),
+    }
 }
 
 /// Whether a call stopped for this reason.
-pub fn stops_with(alloc: Global, ended: &Ended, words: &str) -> Result<(), Fail> {
-    let found = match ended {
-        Ended::Stopped { fault, .. } => format!(in alloc; "{fault}")?,
-        _ => String::new(alloc),
-    };
+pub fn stops_with(alloc: Global, ended: Result<Box<Ended>, Fail>, words: &str) -> Result<(), Fail> {
+    let found = stop(alloc, &*ended?)?;
     same("a stop", &found.as_str(), &words)
 }

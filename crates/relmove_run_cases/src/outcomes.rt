@@ -3,7 +3,7 @@ use crate::cases::Case;
 use crate::comparison::{holds, same};
 use crate::runs::{resume_on, undo_on};
 use relmove_disk::{Disk, below_site, disk_of};
-use relmove_run::{Ended, Fault, Remark};
+use relmove_run::{Ended, Remark, RunFault};
 use std::alloc::Global;
 use std::test::Fail;
 
@@ -79,13 +79,13 @@ pub fn is_done(alloc: Global, case: &Case, disk: &Disk, remarks: &[Remark]) -> R
 /// Whether `resume` gives the tree after the moves. If the new texts weren't all written, it gives the tree before them.
 /// If there is no journal, the run had ended before its last call failed, or hadn't begun.
 pub fn can_be_resumed(alloc: Global, case: &Case, disk: &Disk) -> Result<(), Fail> {
-    match resume_on(disk) {
-        Ended::Done(remarks) => is_done(alloc, case, disk, &remarks),
+    match &*resume_on(disk)? {
+        Ended::Done(remarks) => is_done(alloc, case, disk, remarks),
         Ended::TakenBack { remarks, .. } => {
             same("nothing to say", &remarks.len(), &0)?;
             holds(alloc, "taken back", disk, case.before)
         }
-        Ended::Refused(Fault::NoJournal) => is_whole(alloc, case, disk),
+        Ended::Refused(RunFault::NoJournal) => is_whole(alloc, case, disk),
         other => Err(Fail::new(format_args!("resumed: {other:?}"))),
     }
 }
@@ -93,16 +93,16 @@ pub fn can_be_resumed(alloc: Global, case: &Case, disk: &Disk) -> Result<(), Fai
 /// Whether `undo` gives the tree before the moves, or changes nothing and says that it is too late.
 pub fn can_be_undone(alloc: Global, case: &Case, disk: &Disk) -> Result<(), Fail> {
     let before = disk.listing()?;
-    match undo_on(disk) {
+    match &*undo_on(disk)? {
         Ended::TakenBack { remarks, .. } => {
             same("nothing to say", &remarks.len(), &0)?;
             holds(alloc, "undone", disk, case.before)
         }
-        Ended::Refused(Fault::TooLate) => {
+        Ended::Refused(RunFault::TooLate) => {
             same("too late", &disk.listing()?, &before)?;
             can_be_resumed(alloc, case, disk)
         }
-        Ended::Refused(Fault::NoJournal) => is_whole(alloc, case, disk),
+        Ended::Refused(RunFault::NoJournal) => is_whole(alloc, case, disk),
         other => Err(Fail::new(format_args!("undone: {other:?}"))),
     }
 }

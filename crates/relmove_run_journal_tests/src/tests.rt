@@ -3,4 +3,4 @@
 mod foreign_journals;
 mod journals_near;
 mod other_users;
-mod own_names;
+mod reserved_names;

@@ -3,4 +3,4 @@
 mod both_names;
 mod emptied;
 mod power;
-mod without_links;
+mod without_hard_links;

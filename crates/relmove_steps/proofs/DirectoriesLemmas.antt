@@ -1,9 +1,12 @@
 -- The directories above a path, those that moves leave, and those that a run makes; and the texts of a set.
-use Rattle.std.proofs.Common.{All, ◌≡◌, ◌≢◌, ℕ, ◌<◌, ◌≤◌, ◌-◌, true, false, List, [], ◌∷◌, ◌++◌, Option, Some, None, inl, inr, is_some, Contains, String, Global, ◌+◌, map, take, length, get_or, string_bytes, refl, sym, ap, subst, ◌∙◌, append_assoc, append-nil, length-append, arith}
-use Rattle.std.specs.List.{AllPairs, AllZip, Any, zip}
+use Rattle.std.proofs.Common.{All, Bool, cond, ◌||◌, ◌⊎◌, ◌≡◌, ◌≢◌, ℕ, zero, suc, ◌<◌, ◌≤◌, ◌-◌, true, false, List, [], ◌∷◌, ◌++◌, Option, Some, None, inl, inr, is_some, Contains, String, Global, ◌+◌, map, take, length, get_or, string_bytes, refl, sym, ap, subst, ◌∙◌, append_assoc, append-nil, length-append, arith}
+use Rattle.std.specs.Prelude.{⊤}
+use Rattle.std.specs.List.{AllPairs, AllZip, Any, list_any, zip}
+use Rattle.std.specs.BTreeMap.{is_at}
 use Rattle.std.specs.BTreeSet.{insert_key}
+use Rattle.std.specs.Set.{remove_key}
 use Rattle.std.proofs.lemmas.Bool.{cases_lt, false≢true}
-use Rattle.std.proofs.lemmas.List.{get_or-map, get_or-reverse, get_or_append_left, length-map, length-reverse, map_push, nil_from_length, take_more}
+use Rattle.std.proofs.lemmas.List.{get_or-map, get_or-reverse, get_or_append_left, get_or_default, length-map, length-reverse, map_push, nil_from_length, take_more}
 use Rattle.std.proofs.lemmas.List.Elements.{All-map, All-weaker, AllZip-push, Contains-append_cases, Contains-append_left, Contains-append_right, Contains-push}
 use Rattle.std.proofs.lemmas.List.Quantifiers.{Any-push}
 use Rattle.std.proofs.lemmas.Map.Keys.{Less-from_sorted}
@@ -12,28 +15,31 @@ use Rattle.std.proofs.lemmas.Option.{none-some}
 use Rattle.std.proofs.lemmas.Slice.Zip.{get_or-zip, length-zip}
 use Rattle.std.specs.Cmp.Lexicographic.{slice_cmp}
 use Rattle.std.specs.List.Sorted.{IsStrictlySortedBy}
-use Rattle.std.specs.Ordering.{match_ordering, nat_cmp}
+use Rattle.std.specs.Ordering.{is_eq, match_ordering, nat_cmp}
 use Rattle.std.specs.declared.cmp.Ordering.{Ordering}
 use Rattle.std.specs.declared.cmp.Ordering.TheVariants.{Less, Equal, Greater}
 use mathlib.Core.List.{reverse}
 use Rattle.relative_path.specs.Steps.{Step, components, slash}
 use Rattle.relative_path.specs.Naming.{last_name}
-use Rattle.relative_path.specs.Normalizing.{IsNormalText, IsNormalTextOf}
+use Rattle.relative_path.specs.Normalizing.{IsNormalTextOf}
 use Rattle.relative_path.specs.RelativePath.{path_components, path_text}
 use Rattle.relative_path.specs.Walk.{IsSame}
 use Rattle.relative_path.specs.declared.path.RelativePath.{RelativePath}
-use Rattle.relative_path.proofs.ForCallers.{IsSame-refl, last_name-name}
-use Rattle.relative_path_moves.specs.Moves.{Move, move_at, moves_of, AreApart, AreNamed}
+use Rattle.relative_path.proofs.ForCallers.{last_name-name}
+use Rattle.relative_path_places.specs.declared.normal_view.NormalView.{NormalView}
+use Rattle.relative_path_places.specs.Views.{view_components, view_text}
+use Rattle.relative_path_links.specs.declared.site.MovedSitePage.{MovedSitePage}
+use Rattle.relative_path_moves.specs.declared.moves.Move as declared
+use Rattle.relative_path_moves.specs.Moves.{Move, move_at, written_moves, AreApart, AreNamed, turned}
 use Rattle.relative_path_places.specs.PlaceIndex.{IsFoundAt, IsNoneAt}
 use Rattle.relative_path_moves.specs.TreeMoves.{AtTreePath}
 use Rattle.relmove_checks.specs.Moves.{move_of}
-use Rattle.relmove_checks.specs.Refusals.{turned}
-use Rattle.relmove_checks.proofs.ForCallers.{length-moves_of, move_at-moves_of, same_front, some_long}
-use Rattle.relmove_steps.specs.BetweenNames.{IsNumbered, numbered_name}
-use Rattle.relmove_steps.specs.Directories.{AreMissing, AreMissingTexts, HasDirectory, HaveTextOf, IsAbove, IsLeftByMove, IsMissingText, IsTakenTo, LeavesTo, LeaveToNames, moves_to_names}
-use Rattle.relmove_steps.specs.Steps.{AboveFirst, AreAmong, StepTexts, with_carried, with_removed}
+use Rattle.relmove_checks.proofs.ForCallers.{length-written, move_at-written, same_front, some_long}
+use Rattle.relmove_steps.specs.StagingNames.{IsNumbered, numbered_name}
+use Rattle.relmove_steps.specs.Directories.{AreAllLeft, AreMissing, AreWithout, AreMissingTexts, HasDirectory, HasLeft, HaveTextOf, IsDirectoryAbove, IsLeftByMove, IsLinked, IsMissingText, IsTextTakenTo, LeavesTo, LeaveToNames, moves_to_names}
+use Rattle.relmove_steps.specs.Actions.{AboveFirst, AreAmong, ActionTexts, with_carried, with_removed}
 use Rattle.relmove_steps.proofs.NewFilesLemmas.{components-numbered_name}
-use Rattle.relmove_steps.proofs.OrderLemmas.{nat_cmp-self}
+use Rattle.relmove_steps.proofs.OrderLemmas.{map-reverse, nat_cmp-self}
 
 module _ (cs left directory rest : List Step) (last : Step) (split : cs ≡ left ++ rest)
     (is : left ≡ directory ++ last ∷ [])
@@ -51,9 +57,9 @@ module _ (cs left directory rest : List Step) (last : Step) (split : cs ≡ left
     }
 
 -- the list has each front of the components that is as long as what is left, or longer, but for all of them
-abbrev pub HaveFrontsFrom : List Step → List Step → List RelativePath → Type 0
+abbrev pub HaveFrontsFrom : List Step → List Step → List NormalView → Type 0
 HaveFrontsFrom cs left directories = (front rest : List Step) → cs ≡ front ++ rest → rest ≢ []
-    → length left ≤ length front → Any (λ directory. path_components directory ≡ front) directories
+    → length left ≤ length front → Any (λ directory. view_components directory ≡ front) directories
 
 pub HaveFrontsFrom-start : (cs : List Step) → HaveFrontsFrom cs cs []
 HaveFrontsFrom-start cs = λ front rest is some long.
@@ -68,27 +74,27 @@ Any-more P xs y (k, x, within, is, holds) = (
   holds,
 )
 
-pub HaveFrontsFrom-next : (cs left rest : List Step) (last : Step) (directories : List RelativePath)
-    (directory : RelativePath) → cs ≡ left ++ rest → left ≡ path_components directory ++ last ∷ []
+pub HaveFrontsFrom-next : (cs left rest : List Step) (last : Step) (directories : List NormalView)
+    (directory : NormalView) → cs ≡ left ++ rest → left ≡ view_components directory ++ last ∷ []
     → HaveFrontsFrom cs left directories
-    → HaveFrontsFrom cs (path_components directory) (directories ++ directory ∷ [])
+    → HaveFrontsFrom cs (view_components directory) (directories ++ directory ∷ [])
 HaveFrontsFrom-next cs left rest last directories directory split is before = λ front other here some long.
-    elim (cases_lt (length (path_components directory)) (length front)) [
+    elim (cases_lt (length (view_components directory)) (length front)) [
       | inl less ↦
           let count : length left ≤ length front =
-          omega (arith, less, ap length is, length-append (path_components directory) (last ∷ [])) in
-          Any-more (λ one. path_components one ≡ front) directories directory (before front other here some count)
+          omega (arith, less, ap length is, length-append (view_components directory) (last ∷ [])) in
+          Any-more (λ one. view_components one ≡ front) directories directory (before front other here some count)
       | inr no_less ↦
-          Any-push (λ one. path_components one ≡ front) directories directory
-          (sym (same_front front (path_components directory) other (last ∷ rest)
-          (sym here ∙ split-directory cs left (path_components directory) rest last split is)
+          Any-push (λ one. view_components one ≡ front) directories directory
+          (sym (same_front front (view_components directory) other (last ∷ rest)
+          (sym here ∙ split-directory cs left (view_components directory) rest last split is)
           (omega (arith, long, no_less))))
     ]
 
 -- at the end no shorter front is left
-pub HaveFrontsFrom-end : (cs left : List Step) (directories : List RelativePath) (front : List Step) → length left ≤ 1
+pub HaveFrontsFrom-end : (cs left : List Step) (directories : List NormalView) (front : List Step) → length left ≤ 1
     → HaveFrontsFrom cs left directories → HasDirectory cs front
-    → Any (λ directory. path_components directory ≡ front) directories
+    → Any (λ directory. view_components directory ≡ front) directories
 HaveFrontsFrom-end cs left directories front short all has =
     let long = some_long front has.some_front in
     all front has.rest has.split has.some_rest (omega (arith, short, long))
@@ -195,6 +201,13 @@ All-reverse P xs all = λ k d within.
     let w : k < length xs = rw length-reverse at within in
     subst P (sym (get_or-reverse xs k d w)) (all (length xs - 1 - k) d (omega (arith, w)))
 
+Contains-reverse : {X : Type 0} (xs : List X) (x : X) → Contains xs x → Contains (reverse xs) x
+Contains-reverse xs x (k, within, is) = (
+  length xs - 1 - k,
+  rw length-reverse (omega (arith, within)),
+  get_or-reverse xs (length xs - 1 - k) x (omega (arith, within)) ∙ ap (λ j. get_or xs j x) (omega (arith, within)) ∙ is,
+)
+
 -- ---- the directories that moves leave
 
 pub IsLeftByMove-here : (table moves : List Move) (k : ℕ) (path cs : List Step) (normal now text : List ℕ)
@@ -212,13 +225,201 @@ IsLeftByMove-here table moves k path cs normal now text l here is has there same
   }),
 )
 
--- ---- the directories that are missing
+-- ---- a set of texts without some of them
 
--- a normal text is the normal text of its components
-pub IsNormalTextOf-itself : (text place : List ℕ) → IsNormalText text → IsNormalTextOf (components text) place
-    → IsNormalTextOf (components text) text
-IsNormalTextOf-itself text place normal is =
-    subst (IsNormalTextOf (components text)) (sym (is.only text normal (IsSame-refl (components text)))) is
+module _ {K : Type 0} (test : K → Bool) (text_of : K → List ℕ) where
+  -- a text stays if none of its keys passes the test
+  Contains-remove_key : (ks : List K) (text : List ℕ) → ((k : K) → test k ≡ true → text_of k ≢ text)
+      → Contains (map text_of ks) text → Contains (map text_of (remove_key test ks)) text
+  Contains-remove_key [] text differ has = has
+  Contains-remove_key (x ∷ xs) text differ has =
+      by (test x) refl (Contains-append_cases (text_of x ∷ []) (map text_of xs) text has)
+      (Contains-remove_key xs text differ)
+    where
+      single : Contains (text_of x ∷ []) text → text_of x ≡ text
+      single (zero, within, is) = is
+      single (suc k, within, is) = absurd (let w : suc k < 1 = within in omega (arith, w))
+
+      by : (b : Bool) → test x ≡ b → Contains (text_of x ∷ []) text ⊎ Contains (map text_of xs) text
+          → (Contains (map text_of xs) text → Contains (map text_of (remove_key test xs)) text)
+          → Contains (map text_of (cond b xs (x ∷ remove_key test xs))) text
+      by true is (inl here) kept = absurd (differ x is (single here))
+      by true is (inr later) kept = later
+      by false is (inl here) kept = Contains-append_left (text_of x ∷ []) (map text_of (remove_key test xs)) text here
+      by false is (inr later) kept = Contains-cons (text_of x) (map text_of (remove_key test xs)) text (kept later)
+
+  -- what is left was there
+  Contains-removed : (ks : List K) (text : List ℕ) → Contains (map text_of (remove_key test ks)) text
+      → Contains (map text_of ks) text
+  Contains-removed [] text has = has
+  Contains-removed (x ∷ xs) text has = by (test x) has (Contains-removed xs text)
+    where
+      by : (b : Bool) → Contains (map text_of (cond b xs (x ∷ remove_key test xs))) text
+          → (Contains (map text_of (remove_key test xs)) text → Contains (map text_of xs) text)
+          → Contains (map text_of (x ∷ xs)) text
+      by true has more = Contains-cons (text_of x) (map text_of xs) text has
+      by false has more = elim (Contains-append_cases (text_of x ∷ []) (map text_of (remove_key test xs)) text has) [
+        | inl here ↦ Contains-append_left (text_of x ∷ []) (map text_of xs) text here
+        | inr later ↦ Contains-cons (text_of x) (map text_of xs) text (more later)
+      ]
+
+  -- if no key passes the test, no key has a text whose keys all pass it
+  Contains-none : (ks : List K) (text : List ℕ) → list_any test ks ≡ false → ((k : K) → text_of k ≡ text → test k ≡ true)
+      → ¬ Contains (map text_of ks) text
+  Contains-none [] text none passes (k, within, is) = let w : k < 0 = within in omega (arith, w)
+  Contains-none (x ∷ xs) text none passes (zero, within, is) = by (test x) (passes x is) none
+    where
+      by : (b : Bool) → b ≡ true → (b || list_any test xs) ≡ false → ⊥
+      by true is none = false≢true (sym none)
+      by false is none = false≢true is
+  Contains-none (x ∷ xs) text none passes (suc k, within, is) =
+      Contains-none xs text (by (test x) none) passes (k, omega (arith, within), is)
+    where
+      by : (b : Bool) → (b || list_any test xs) ≡ false → list_any test xs ≡ false
+      by true none = absurd (false≢true (sym none))
+      by false none = none
+
+pub AreWithout-remove_key : (before after : List (String Global)) (value : List ℕ)
+    → after ≡ remove_key (is_at (λ k. slice_cmp nat_cmp value (string_bytes k))) before
+    → list_any (is_at (λ k. slice_cmp nat_cmp value (string_bytes k))) after ≡ false
+    → AreWithout (λ text. text ≡ value) (map string_bytes before) (map string_bytes after)
+AreWithout-remove_key before after value is none = record {
+  kept = λ text has not.
+      subst (λ keys. Contains (map string_bytes keys) text) (sym is)
+      (Contains-remove_key test string_bytes before text (λ k passes same. not (sym (exact k passes ∙ same))) has);
+  only = λ text has. (
+    Contains-removed test string_bytes before text (subst (λ keys. Contains (map string_bytes keys) text) is has),
+    λ same. Contains-none test string_bytes after text none (λ k same_2. passes k (same_2 ∙ same)) has,
+  );
+}
+  where
+    test : String Global → Bool
+    test = is_at (λ k. slice_cmp nat_cmp value (string_bytes k))
+
+    exact : (k : String Global) → test k ≡ true → value ≡ string_bytes k
+    exact k passes = exact_bytes value (string_bytes k) (by (slice_cmp nat_cmp value (string_bytes k)) passes)
+      where
+        by : (o : Ordering) → is_eq o ≡ true → o ≡ Equal
+        by Less is = absurd (false≢true is)
+        by Equal is = refl
+        by Greater is = absurd (false≢true is)
+
+    passes : (k : String Global) → string_bytes k ≡ value → test k ≡ true
+    passes k same = rw (same, slice_cmp-self value) refl
+
+-- without what is the same
+pub AreWithout-same : (one other : List ℕ → Type 0) (before after : List (List ℕ)) → ((text : List ℕ) → one text → other text)
+    → ((text : List ℕ) → other text → one text) → AreWithout one before after → AreWithout other before after
+AreWithout-same one other before after forth back without = record {
+  kept = λ text has not. without.kept text has (λ is. not (forth text is));
+  only = λ text has. let (had, not) = without.only text has in (had, λ is. not (back text is));
+}
+
+-- P holds of one of the first k elements
+abbrev pub AnyBelow : {X : Type 0} → ℕ → (X → Type 0) → List X → Type 0
+AnyBelow {X} k P xs = (j : ℕ) × (x : X) × (j < k) × (get_or xs j x ≡ x) × P x
+
+pub AreWithout-none : {X : Type 0} (P : List ℕ → X → Type 0) (xs : List X) (texts : List (List ℕ))
+    → AreWithout (λ text. AnyBelow 0 (P text) xs) texts texts
+AreWithout-none P xs texts = record {
+  kept = λ text has not. has;
+  only = λ text has. (has, λ (j, x, less, is, holds). absurd (omega (arith, less)));
+}
+
+-- nothing goes if there is none of these
+pub AreWithout-still : (gone : List ℕ → Type 0) (texts : List (List ℕ)) → ((text : List ℕ) → ¬ gone text)
+    → AreWithout gone texts texts
+AreWithout-still gone texts none = record { kept = λ text has not. has; only = λ text has. (has, none text) }
+
+-- without those of one element more
+pub AreWithout-next : {X : Type 0} (P : List ℕ → X → Type 0) (xs : List X) (k : ℕ) (x : X) (before mid after : List (List ℕ))
+    → k < length xs → get_or xs k x ≡ x → AreWithout (λ text. AnyBelow k (P text) xs) before mid
+    → AreWithout (λ text. P text x) mid after → AreWithout (λ text. AnyBelow (k + 1) (P text) xs) before after
+AreWithout-next P xs k x before mid after within at first second = record {
+  kept = λ text has not.
+      second.kept text
+      (first.kept text has (λ (j, y, less, is, holds). not (j, y, omega (arith, less), is, holds)))
+      (λ holds. not (k, x, omega arith, at, holds));
+  only = λ text has.
+      let (there, not_x) = second.only text has in
+      let (had, not_before) = first.only text there in (
+        had,
+        λ (j, y, less, is, holds). elim (cases_lt j k) [
+          | inl earlier ↦ not_before (j, y, earlier, is, holds)
+          | inr no_earlier ↦
+              let last : j ≡ k = omega (arith, less, no_earlier) in
+              let same : y ≡ x =
+              sym is ∙ ap (λ j. get_or xs j y) last ∙ get_or_default xs k y x within ∙ at in
+              not_x (subst (P text) same holds)
+        ],
+      );
+}
+
+-- without those of all elements
+pub AreWithout-all : {X : Type 0} (P : List ℕ → X → Type 0) (xs : List X) (k : ℕ) (before after : List (List ℕ))
+    → (k < length xs → ⊥) → AreWithout (λ text. AnyBelow k (P text) xs) before after
+    → k ≤ length xs → AreWithout (λ text. Any (P text) xs) before after
+AreWithout-all P xs k before after last without bound =
+    AreWithout-same (λ text. AnyBelow k (P text) xs) (λ text. Any (P text) xs) before after
+    (λ text (j, x, less, is, holds). (j, x, omega (arith, less, bound), is, holds))
+    (λ text (j, x, less, is, holds). (j, x, by j less, is, holds)) without
+  where
+    by : (j : ℕ) → j < length xs → j < k
+    by j less = elim (cases_lt k (length xs)) [
+      | inl later ↦ absurd (last later)
+      | inr past ↦ omega (arith, less, past)
+    ]
+
+-- nothing is left at all
+pub AreWithout-empty : {X : Type 0} (P : List ℕ → X → Type 0) (xs : List X) (k : ℕ) (before : List (List ℕ)) → k ≤ length xs
+    → AreWithout (λ text. AnyBelow k (P text) xs) before [] → AreWithout (λ text. Any (P text) xs) before []
+AreWithout-empty P xs k before bound without = record {
+  kept = λ text has not.
+      without.kept text has (λ (j, x, less, is, holds). not (j, x, omega (arith, less, bound), is, holds));
+  only = λ text (j, within, is). absurd (let w : j < 0 = within in omega (arith, w));
+}
+
+-- where the directory is after the moves is one of the texts
+abbrev pub IsLeftAt : List Move → List (List ℕ) → NormalView → Type 0
+IsLeftAt table texts directory = HasLeft table texts (λ text. ⊤) (view_components directory)
+
+pub HasLeft-more : (table : List Move) (texts more : List (List ℕ)) (cs : List Step)
+    → ((text : List ℕ) → Contains texts text → Contains more text) → HasLeft table texts (λ text. ⊤) cs
+    → HasLeft table more (λ text. ⊤) cs
+HasLeft-more table texts more cs kept left =
+    record { text = left.text; now = left.now; has = λ any. kept left.text (left.has any) }
+
+pub HasLeft-any : (table : List Move) (texts : List (List ℕ)) (directories : List NormalView) (cs : List Step)
+    → All (IsLeftAt table texts) directories → Any (λ directory. view_components directory ≡ cs) directories
+    → HasLeft table texts (λ text. ⊤) cs
+HasLeft-any table texts directories cs all (k, directory, within, is, same) =
+    subst (HasLeft table texts (λ text. ⊤)) same (subst (IsLeftAt table texts) is (all k directory within))
+
+pub AreAllLeft-reverse : (table moves : List Move) (news : List MovedSitePage) (first keys : List (String Global))
+    → ((k : ℕ) → k < length moves → (directory : List Step) → IsDirectoryAbove (move_at moves k).old directory
+    → HasLeft table (map string_bytes first) (λ text. ⊤) directory)
+    → AreWithout (IsLinked table news) (map string_bytes first) (map string_bytes keys)
+    → AreAllLeft table moves news (map string_bytes (reverse keys))
+AreAllLeft-reverse table moves news first keys all without = record {
+  unlinked = subst (All (λ text. ¬ IsLinked table news text)) (sym (map-reverse string_bytes keys))
+      (All-reverse (λ text. ¬ IsLinked table news text) texts
+      (λ k d within.
+      (without.only (get_or texts k d) (k, within, get_or_default texts k (get_or texts k d) d within)).1));
+  complete = λ k within directory above.
+      let left = all k within directory above in
+      record {
+        text = left.text;
+        now = left.now;
+        has = λ not.
+            subst (λ texts. Contains texts left.text) (sym (map-reverse string_bytes keys))
+            (Contains-reverse texts left.text (without.kept left.text (left.has tt) not));
+      };
+}
+  where
+    texts : List (List ℕ)
+    texts = map string_bytes keys
+
+-- ---- the directories that are missing
 
 -- where an index finds nothing
 pub IsNoneAt-found : (paths : List (List Step)) (cs : List Step) (found : Option ℕ) → is_some found ≡ false
@@ -251,19 +452,19 @@ pub HaveTextOf-more : (texts more : List (List ℕ)) (cs : List Step)
 HaveTextOf-more texts more cs kept (text, has, is) = (text, kept text has, is)
 
 -- if no path leads to the directory, one of the texts is its normal text
-abbrev pub IsServed : List (List Step) → List (List ℕ) → RelativePath → Type 0
+abbrev pub IsServed : List (List Step) → List (List ℕ) → NormalView → Type 0
 IsServed after texts directory =
-    IsNoneAt after (path_components directory) → HaveTextOf texts (path_components directory)
+    IsNoneAt after (view_components directory) → HaveTextOf texts (view_components directory)
 
-pub All-IsServed-more : (after : List (List Step)) (texts more : List (List ℕ)) (directories : List RelativePath)
+pub All-IsServed-more : (after : List (List Step)) (texts more : List (List ℕ)) (directories : List NormalView)
     → ((text : List ℕ) → Contains texts text → Contains more text) → All (IsServed after texts) directories
     → All (IsServed after more) directories
 All-IsServed-more after texts more directories kept all =
     All-weaker (IsServed after texts) (IsServed after more)
-    (λ directory served none. HaveTextOf-more texts more (path_components directory) kept (served none)) directories all
+    (λ directory served none. HaveTextOf-more texts more (view_components directory) kept (served none)) directories all
 
-pub IsServed-any : (after : List (List Step)) (texts : List (List ℕ)) (directories : List RelativePath) (cs : List Step)
-    → All (IsServed after texts) directories → Any (λ directory. path_components directory ≡ cs) directories
+pub IsServed-any : (after : List (List Step)) (texts : List (List ℕ)) (directories : List NormalView) (cs : List Step)
+    → All (IsServed after texts) directories → Any (λ directory. view_components directory ≡ cs) directories
     → IsNoneAt after cs → HaveTextOf texts cs
 IsServed-any after texts directories cs all (k, directory, within, is, same) none =
     let served : IsServed after texts directory = subst (IsServed after texts) is (all k directory within) in
@@ -271,18 +472,18 @@ IsServed-any after texts directories cs all (k, directory, within, is, same) non
 
 -- the text of the directory is added
 pub IsServed-insert : (after : List (List Step)) (keys : List (String Global)) (key : String Global)
-    (directory : RelativePath) → string_bytes key ≡ path_text directory
-    → IsNormalTextOf (path_components directory) (path_text directory)
+    (directory : NormalView) → string_bytes key ≡ view_text directory
+    → IsNormalTextOf (view_components directory) (view_text directory)
     → IsServed after (map string_bytes (insert_key text_cmp keys key)) directory
 IsServed-insert after keys key directory key_is is = λ none. (
   string_bytes key,
   Contains-insert_key text_cmp string_bytes text_ties keys key,
-  subst (IsNormalTextOf (path_components directory)) (sym key_is) is,
+  subst (IsNormalTextOf (view_components directory)) (sym key_is) is,
 )
 
 -- a directory is above one normal text of a path if it is above another
 pub HasDirectory-normal : (path directory : List Step) (normal : List ℕ) → IsNormalTextOf path normal
-    → IsAbove path directory → HasDirectory (components normal) directory
+    → IsDirectoryAbove path directory → HasDirectory (components normal) directory
 HasDirectory-normal path directory normal is above =
     subst (λ text. HasDirectory (components text) directory)
     (is.only above.normal above.normal_of.normal_text above.normal_of.same) above.above
@@ -291,7 +492,7 @@ HasDirectory-normal path directory normal is above =
 pub AreMissing-ordered : (moves : List Move) (after : List (List Step)) (texts : List (String Global))
     → IsStrictlySortedBy (λ one other. slice_cmp nat_cmp (string_bytes one) (string_bytes other)) texts
     → AreMissingTexts moves after texts
-    → ((k : ℕ) → k < length moves → (directory : List Step) → IsAbove (move_at moves k).new directory
+    → ((k : ℕ) → k < length moves → (directory : List Step) → IsDirectoryAbove (move_at moves k).new directory
     → IsNoneAt after directory → HaveTextOf (map string_bytes texts) directory)
     → AreMissing moves after (map string_bytes texts)
 AreMissing-ordered moves after texts sorted sound complete = record {
@@ -301,18 +502,18 @@ AreMissing-ordered moves after texts sorted sound complete = record {
   different = AllPairs-ordered texts sorted;
 }
 
-pub IsTakenTo-here : (news : List Move) (directory seen now text : List ℕ) → seen ≡ directory → text ≡ now
-    → AtTreePath news (components seen) (λ target. IsNormalTextOf target now) → IsTakenTo news directory text
-IsTakenTo-here news directory seen now text is same there = rw (sym is, same) there
+pub IsTextTakenTo-here : (news : List Move) (directory seen now text : List ℕ) → seen ≡ directory → text ≡ now
+    → AtTreePath news (components seen) (λ target. IsNormalTextOf target now) → IsTextTakenTo news directory text
+IsTextTakenTo-here news directory seen now text is same there = rw (sym is, same) there
 
 -- one more directory is taken
-pub AllZip-IsTakenTo-next : (news : List Move) (taken made : List (String Global)) (directory text : String Global)
-    → AllZip (IsTakenTo news) (map string_bytes taken) (map string_bytes made)
-    → IsTakenTo news (string_bytes directory) (string_bytes text)
-    → AllZip (IsTakenTo news) (map string_bytes (taken ++ directory ∷ [])) (map string_bytes (made ++ text ∷ []))
-AllZip-IsTakenTo-next news taken made directory text before here =
+pub AllZip-IsTextTakenTo-next : (news : List Move) (taken made : List (String Global)) (directory text : String Global)
+    → AllZip (IsTextTakenTo news) (map string_bytes taken) (map string_bytes made)
+    → IsTextTakenTo news (string_bytes directory) (string_bytes text)
+    → AllZip (IsTextTakenTo news) (map string_bytes (taken ++ directory ∷ [])) (map string_bytes (made ++ text ∷ []))
+AllZip-IsTextTakenTo-next news taken made directory text before here =
     rw (map_push (string_bytes {Z = Global}) taken directory, map_push (string_bytes {Z = Global}) made text)
-    (AllZip-push (IsTakenTo news) (map string_bytes taken) (map string_bytes made) (string_bytes directory)
+    (AllZip-push (IsTextTakenTo news) (map string_bytes taken) (map string_bytes made) (string_bytes directory)
     (string_bytes text) before here)
 
 -- ---- the moves to names
@@ -367,58 +568,57 @@ AreApart-moves_to_names moves names count apart = λ j k same.
     })
 
 -- one pair more
-pub moves_to_names-next : (paths : List (RelativePath × RelativePath)) (names : List (String Global))
-    (pairs : List (RelativePath × RelativePath)) (k : ℕ) (new name : RelativePath) (none : RelativePath × RelativePath)
-    (item : String Global) → k < length paths → k < length names → new ≡ (get_or paths k none).1
-    → item ≡ get_or names k item → path_text name ≡ string_bytes item
-    → moves_of pairs ≡ take k (moves_to_names (moves_of paths) (map string_bytes names))
-    → moves_of (pairs ++ (new, name) ∷ []) ≡ take (k + 1) (moves_to_names (moves_of paths) (map string_bytes names))
-moves_to_names-next paths names pairs k new name none item within also new_is item_is name_is before =
-    let moves = moves_of paths in
+pub moves_to_names-next : (moves : List declared.Move) (names : List (String Global)) (news : List declared.Move) (k : ℕ)
+    (move next : declared.Move) (item : String Global) → k < length moves → k < length names
+    → move ≡ get_or moves k move → item ≡ get_or names k item → next.old ≡ move.new
+    → path_text next.new ≡ string_bytes item
+    → written_moves news ≡ take k (moves_to_names (written_moves moves) (map string_bytes names))
+    → written_moves (news ++ next ∷ []) ≡ take (k + 1) (moves_to_names (written_moves moves) (map string_bytes names))
+moves_to_names-next paths names news k move next item within also move_is item_is old_is name_is before =
+    let moves = written_moves paths in
     let texts = map (string_bytes {Z = Global}) names in
     let all = moves_to_names moves texts in
-    let one : k < length moves = rw (length-moves_of paths) within in
+    let one : k < length moves = rw (length-written paths) within in
     let other : k < length texts = rw length-map also in
     let long : k < length all =
     rw (length-map (zip moves texts) (λ (pair : Move × List ℕ). move_of pair.0.new (components pair.1)), length-zip moves texts)
     (omega (arith, one, other)) in
-    let text_is : get_or texts k [] ≡ path_text name =
+    let text_is : get_or texts k [] ≡ path_text next.new =
     get_or-map (string_bytes {Z = Global}) names k item [] also ∙ ap (string_bytes {Z = Global}) (sym item_is) ∙ sym name_is in
-    let here : get_or all k (move_of [] []) ≡ move_of (path_components new) (path_components name) =
+    let here : get_or all k (move_of [] []) ≡ move_of (path_components next.old) (path_components next.new) =
     move_at-moves_to_names moves texts k one other
-    ∙ ap (λ (move : Move). move_of move.new (components (get_or texts k []))) (move_at-moves_of paths k none within)
-    ∙ ap (λ (path : RelativePath). move_of (path_components path) (components (get_or texts k []))) (sym new_is)
-    ∙ ap (λ (text : List ℕ). move_of (path_components new) (components text)) text_is in
-    map_push (λ (pair : RelativePath × RelativePath). move_of (path_components pair.0) (path_components pair.1)) pairs (new, name)
-    ∙ ap (λ (moves : List Move). moves ++ move_of (path_components new) (path_components name) ∷ []) before
+    ∙ ap (λ (move : Move). move_of move.new (components (get_or texts k []))) (move_at-written paths k move within move_is)
+    ∙ ap (λ (path : RelativePath). move_of (path_components path) (components (get_or texts k []))) (sym old_is)
+    ∙ ap (λ (text : List ℕ). move_of (path_components next.old) (components text)) text_is in
+    map_push (λ (move : declared.Move). move_of (path_components move.old) (path_components move.new)) news next
+    ∙ ap (λ (moves : List Move). moves ++ move_of (path_components next.old) (path_components next.new) ∷ []) before
     ∙ ap (λ (move : Move). take k all ++ move ∷ []) (sym here) ∙ sym (take_more all k (move_of [] []) long)
 
 -- ---- the names to which things leave
 
-pub LeavesTo-with_removed : (steps : StepTexts) (cs : List Step) (from name : List ℕ) → IsNormalTextOf cs from
-    → LeavesTo (with_removed steps from name) cs name
-LeavesTo-with_removed steps cs from name is = (from, is, Contains-push steps.apart (from, name))
+pub LeavesTo-with_removed : (actions : ActionTexts) (cs : List Step) (from name : List ℕ) → IsNormalTextOf cs from
+    → LeavesTo (with_removed actions from name) cs name
+LeavesTo-with_removed actions cs from name is = (from, is, Contains-push actions.staged (from, name))
 
-pub LeavesTo-with_carried : (steps : StepTexts) (cs : List Step) (from name to : List ℕ) → IsNormalTextOf cs from
-    → LeavesTo (with_carried steps from name to) cs name
-LeavesTo-with_carried steps cs from name to is = (from, is, Contains-push steps.apart (from, name))
+pub LeavesTo-with_carried : (actions : ActionTexts) (cs : List Step) (from name to : List ℕ) → IsNormalTextOf cs from
+    → LeavesTo (with_carried actions from name to) cs name
+LeavesTo-with_carried actions cs from name to is = (from, is, Contains-push actions.staged (from, name))
 
-pub LeavesTo-among : (steps more : StepTexts) → AreAmong steps more → (cs : List Step) (name : List ℕ)
-    → LeavesTo steps cs name → LeavesTo more cs name
-LeavesTo-among steps more among cs name (old, is, has) = (old, is, among.apart (old, name) has)
+pub LeavesTo-among : (actions more : ActionTexts) → AreAmong actions more → (cs : List Step) (name : List ℕ)
+    → LeavesTo actions cs name → LeavesTo more cs name
+LeavesTo-among actions more among cs name (old, is, has) = (old, is, among.staged (old, name) has)
 
-pub LeaveToNames-among : (steps more : StepTexts) → AreAmong steps more → (moves : List Move) (names : List (List ℕ))
-    → LeaveToNames moves names steps → LeaveToNames moves names more
-LeaveToNames-among steps more among moves names leave = record {
+pub LeaveToNames-among : (actions more : ActionTexts) → AreAmong actions more → (moves : List Move) (names : List (List ℕ))
+    → LeaveToNames moves names actions → LeaveToNames moves names more
+LeaveToNames-among actions more among moves names leave = record {
   count = leave.count;
-  each = λ k l. LeavesTo-among steps more among (move_at moves k).old (get_or names k []) (leave.each k l);
+  each = λ k l. LeavesTo-among actions more among (move_at moves k).old (get_or names k []) (leave.each k l);
 }
 
-pub LeavesTo-here : (steps : StepTexts) (paths : List (RelativePath × RelativePath)) (none : RelativePath × RelativePath)
-    (names : List (String Global)) (k : ℕ) (item : String Global) (name : List ℕ) → k < length paths → k < length names
-    → item ≡ get_or names k item → name ≡ string_bytes item
-    → LeavesTo steps (path_components (get_or paths k none).0) name
-    → LeavesTo steps (move_at (moves_of paths) k).old (get_or (map string_bytes names) k [])
-LeavesTo-here steps paths none names k item name within also item_is name_is leaves =
-    rw (move_at-moves_of paths k none within, get_or-map (string_bytes {Z = Global}) names k item [] also)
-    (subst (LeavesTo steps (path_components (get_or paths k none).0)) (name_is ∙ ap (string_bytes {Z = Global}) item_is) leaves)
+pub LeavesTo-here : (actions : ActionTexts) (moves : List declared.Move) (move : declared.Move) (names : List (String Global))
+    (k : ℕ) (item : String Global) (name : List ℕ) → k < length moves → move ≡ get_or moves k move → k < length names
+    → item ≡ get_or names k item → name ≡ string_bytes item → LeavesTo actions (path_components move.old) name
+    → LeavesTo actions (move_at (written_moves moves) k).old (get_or (map string_bytes names) k [])
+LeavesTo-here actions moves move names k item name within is also item_is name_is leaves =
+    rw (move_at-written moves k move within is, get_or-map (string_bytes {Z = Global}) names k item [] also)
+    (subst (LeavesTo actions (path_components move.old)) (name_is ∙ ap (string_bytes {Z = Global}) item_is) leaves)

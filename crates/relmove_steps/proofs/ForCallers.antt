@@ -1,7 +1,7 @@
--- Theorems that a caller's proof may cite: on the names in between.
+-- Theorems that a caller's proof may cite: on the staging names.
 use Rattle.std.proofs.Common.{All, IsPermutation, ◌≡◌, ℕ, List, [], ◌∷◌}
 use Rattle.relative_path.specs.Steps.{Step, name, components}
-use Rattle.relmove_steps.specs.BetweenNames.{AreFreeNames}
+use Rattle.relmove_steps.specs.StagingNames.{AreFreeNames}
 use Rattle.relmove_steps.proofs.NamesLemmas as names
 use Rattle.relmove_steps.proofs.NewFilesLemmas as files
 
@@ -10,7 +10,7 @@ pub AreFreeNames-IsPermutation : (paths : List (List Step)) (names others : List
     → AreFreeNames paths names → AreFreeNames paths others
 AreFreeNames-IsPermutation = names.AreFreeNames-IsPermutation
 
--- names in between are one component each
+-- staging names are one component each
 pub components-free : (paths : List (List Step)) (names : List (List ℕ)) → AreFreeNames paths names
-    → All (λ between. components between ≡ name between ∷ []) names
+    → All (λ staging. components staging ≡ name staging ∷ []) names
 components-free = files.components-free

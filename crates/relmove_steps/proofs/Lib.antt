@@ -1,6 +1,6 @@
 mod PagesLemmas
 mod OrderLemmas
-mod StepsLemmas
+mod ActionsLemmas
 mod CarryLemmas
 mod OnlyLemmas
 mod NamesLemmas

@@ -1,4 +1,4 @@
--- Names in between: the next one differs from those before it.
+-- Staging names: the next one differs from those before it.
 use Rattle.std.proofs.Common.{Bool, true, false, true≢false, Decides, ◌≡◌, ◌≢◌, ℕ, ◌<◌, ◌≤◌, ◌+◌, ◌^◌, List, [], ◌∷◌, ◌++◌, String, Global, codes, length, map, take, get_or, string_bytes, refl, sym, ap, ◌∙◌, append_assoc, arith}
 use Rattle.std.specs.Prelude.{decimal}
 use Rattle.std.specs.Str.{bytes_eq}
@@ -15,8 +15,8 @@ use Rattle.std.proofs.lemmas.Slice.Eq.{bytes_eq-Decides}
 use Rattle.relative_path.specs.Steps.{Step, components}
 use Rattle.relative_path_places.specs.PlaceIndex.{IsNoneAt}
 use Rattle.relative_path_places.specs.declared.place_index.PlaceIndex.{PlaceIndex}
-use Rattle.relmove_steps.specs.declared.between.FreeNames.{FreeNames}
-use Rattle.relmove_steps.specs.BetweenNames.{numbered_name, IsNumbered, AreFreeNames, AreDrawn, IsDrawn}
+use Rattle.relmove_steps.specs.declared.staging.FreeNames.{FreeNames}
+use Rattle.relmove_steps.specs.StagingNames.{numbered_name, IsNumbered, AreFreeNames, AreDrawn, IsDrawn}
 
 -- ---- names that differ, in another order
 
@@ -102,17 +102,17 @@ AreDrawn-next index before after names name next drawn =
 
 -- ---- the names of the moves, one after another
 
-pub names_left-next : (left before now : List (List ℕ)) (between : List (String Global)) (k : ℕ) (item : String Global)
-    (name : List ℕ) → k < length between → item ≡ get_or between k item → name ≡ string_bytes item
-    → before ≡ left ++ map string_bytes (take k between) → now ≡ before ++ name ∷ []
-    → now ≡ left ++ map string_bytes (take (k + 1) between)
-names_left-next left before now between k item name within is name_is so_far next =
+pub names_left-next : (left before now : List (List ℕ)) (staging : List (String Global)) (k : ℕ) (item : String Global)
+    (name : List ℕ) → k < length staging → item ≡ get_or staging k item → name ≡ string_bytes item
+    → before ≡ left ++ map string_bytes (take k staging) → now ≡ before ++ name ∷ []
+    → now ≡ left ++ map string_bytes (take (k + 1) staging)
+names_left-next left before now staging k item name within is name_is so_far next =
     next ∙ ap (λ names. names ++ name ∷ []) so_far
-    ∙ append_assoc left (map string_bytes (take k between)) (name ∷ [])
-    ∙ ap (λ one. left ++ (map string_bytes (take k between) ++ one ∷ [])) (name_is ∙ ap string_bytes is)
-    ∙ ap (λ names. left ++ names) (sym (map_more string_bytes between k item within))
+    ∙ append_assoc left (map string_bytes (take k staging)) (name ∷ [])
+    ∙ ap (λ one. left ++ (map string_bytes (take k staging) ++ one ∷ [])) (name_is ∙ ap string_bytes is)
+    ∙ ap (λ names. left ++ names) (sym (map_more string_bytes staging k item within))
 
-pub names_left-all : (left now : List (List ℕ)) (between : List (String Global)) (k : ℕ) → length between ≤ k
-    → now ≡ left ++ map string_bytes (take k between) → now ≡ left ++ map string_bytes between
-names_left-all left now between k all so_far =
-    so_far ∙ ap (λ some. left ++ map string_bytes some) (take_all k between all)
+pub names_left-all : (left now : List (List ℕ)) (staging : List (String Global)) (k : ℕ) → length staging ≤ k
+    → now ≡ left ++ map string_bytes (take k staging) → now ≡ left ++ map string_bytes staging
+names_left-all left now staging k all so_far =
+    so_far ∙ ap (λ some. left ++ map string_bytes some) (take_all k staging all)

@@ -22,10 +22,10 @@ use Rattle.relative_path_places.specs.Places.{directory}
 use Rattle.relative_path_places.specs.PlaceIndex.{Indexes, IsNoneAt, path_at}
 use Rattle.relative_path_places.specs.declared.place_index.PlaceIndex.{PlaceIndex}
 use Rattle.relmove_checks.proofs.ForCallers.{components-nil}
-use Rattle.relmove_steps.specs.declared.between.FreeNames.{FreeNames}
-use Rattle.relmove_steps.specs.BetweenNames.{numbered_name, IsNumbered, AreDrawn, AreFreeNames, IsDrawn, IsDrawnIn}
+use Rattle.relmove_steps.specs.declared.staging.FreeNames.{FreeNames}
+use Rattle.relmove_steps.specs.StagingNames.{numbered_name, IsNumbered, AreDrawn, AreFreeNames, IsDrawn, IsDrawnIn}
 use Rattle.relmove_steps.specs.NewFiles.{IsOneOf, IsNextTo, HaveOwnFiles, EndsBelow, AreFilesDrawn}
-use Rattle.relmove_steps.specs.Steps.{StepTexts, WritesPage, WritesPages, with_text, names_left, pages_written}
+use Rattle.relmove_steps.specs.Actions.{ActionTexts, WritesPage, WritesPages, with_text, names_left, pages_written}
 use Rattle.relmove_steps.proofs.NamesLemmas.{bytes_eq-false, numbered_name-other}
 
 -- ---- a numbered name is one component
@@ -66,20 +66,21 @@ components-numbered_name n fits =
     ∙ ap (λ c. c ∷ []) (classed-name 46 114 (codes "elmove-" ++ decimal n) (λ same. absurd (omega (arith, same))))
 
 -- new texts of the pages up to the next are written
-pub WritesPages-next : (paths : List (List Step)) (k : ℕ) (cs : List Step) (steps more : StepTexts) → k < length paths
-    → path_at paths k ≡ cs → WritesPage cs steps more → WritesPages (take k paths) steps → WritesPages (take (k + 1) paths) more
-WritesPages-next paths k cs steps more within here (page, is, written) so_far =
+pub WritesPages-next : (paths : List (List Step)) (k : ℕ) (cs : List Step) (actions more : ActionTexts) → k < length paths
+    → path_at paths k ≡ cs → WritesPage cs actions more → WritesPages (take k paths) actions
+    → WritesPages (take (k + 1) paths) more
+WritesPages-next paths k cs actions more within here (page, is, written) so_far =
     subst (AllZip IsNormalTextOf (take (k + 1) paths)) (sym written)
-    (subst (λ all. AllZip IsNormalTextOf all (pages_written steps ++ page ∷ [])) (sym (take_more paths k [] within))
-    (all_zipped_more IsNormalTextOf (take k paths) (pages_written steps) (path_at paths k) page so_far
+    (subst (λ all. AllZip IsNormalTextOf all (pages_written actions ++ page ∷ [])) (sym (take_more paths k [] within))
+    (all_zipped_more IsNormalTextOf (take k paths) (pages_written actions) (path_at paths k) page so_far
     (subst (λ ds. IsNormalTextOf ds page) (sym here) is)))
 
--- names in between are one component each
+-- staging names are one component each
 pub components-free : (paths : List (List Step)) (names : List (List ℕ)) → AreFreeNames paths names
-    → All (λ between. components between ≡ name between ∷ []) names
+    → All (λ staging. components staging ≡ name staging ∷ []) names
 components-free paths names free = λ k d l.
     let (number, fits, is) = free.numbered k d l in
-    subst (λ between. components between ≡ name between ∷ []) (sym is) (components-numbered_name number fits)
+    subst (λ staging. components staging ≡ name staging ∷ []) (sym is) (components-numbered_name number fits)
 
 -- ---- the text that spells components
 
@@ -149,9 +150,9 @@ EndsBelow-IsNumbered next text is = record {
 
 -- ---- drawing new files
 
-pub AreFilesDrawn-none : (index : PlaceIndex) (pages : List (List Step)) (free : FreeNames) (steps : StepTexts)
-    → steps.texts ≡ [] → AreFilesDrawn index pages free steps
-AreFilesDrawn-none index pages free steps none = record {
+pub AreFilesDrawn-none : (index : PlaceIndex) (pages : List (List Step)) (free : FreeNames) (actions : ActionTexts)
+    → actions.texts ≡ [] → AreFilesDrawn index pages free actions
+AreFilesDrawn-none index pages free actions none = record {
   numbered = none_of (λ new. EndsBelow free.next new.1);
   own = λ entries has. record {
     of_pages = none_of (λ new. IsOneOf pages new.0);
@@ -159,28 +160,28 @@ AreFilesDrawn-none index pages free steps none = record {
     unused = none_of (λ new. IsNoneAt entries (components new.1));
     different = subst (AllPairs (λ (one other : List ℕ × List ℕ × List ℕ). one.1 ≢ other.1)) (sym none)
         (λ i j d l within. absurd (let w : j < 0 = within in omega (arith, w)));
-    no_name = none_of (λ new. All (λ between. new.1 ≢ between) (names_left steps));
+    no_name = none_of (λ new. All (λ staging. new.1 ≢ staging) (names_left actions));
   };
 }
   where
-    none_of : (P : List ℕ × List ℕ × List ℕ → Type 0) → All P steps.texts
+    none_of : (P : List ℕ × List ℕ × List ℕ → Type 0) → All P actions.texts
     none_of P = subst (All P) (sym none) (All-nil P)
 
 -- one new file more
-pub AreFilesDrawn-file : (index : PlaceIndex) (pages : List (List Step)) (before after : FreeNames) (steps : StepTexts)
+pub AreFilesDrawn-file : (index : PlaceIndex) (pages : List (List Step)) (before after : FreeNames) (actions : ActionTexts)
     (page file text : List ℕ) → IsDrawnIn (directory (components page)) before after file → IsNormalText page
-    → IsOneOf pages page → AreDrawn index before (names_left steps) → AreFilesDrawn index pages before steps
-    → AreFilesDrawn index pages after (with_text steps page file text)
-AreFilesDrawn-file index pages before after steps page file text next normal one drawn files =
+    → IsOneOf pages page → AreDrawn index before (names_left actions) → AreFilesDrawn index pages before actions
+    → AreFilesDrawn index pages after (with_text actions page file text)
+AreFilesDrawn-file index pages before after actions page file text next normal one drawn files =
     let new : List ℕ × List ℕ × List ℕ = (page, file, text) in
     let late = next.late in
     let next_is = next.next in
     let ends = components-next_to page file next.number next.fits normal next.file_of in
     record {
-      numbered = All-push (λ (new : List ℕ × List ℕ × List ℕ). EndsBelow after.next new.1) steps.texts new
+      numbered = All-push (λ (new : List ℕ × List ℕ × List ℕ). EndsBelow after.next new.1) actions.texts new
           (All-weaker (λ (new : List ℕ × List ℕ × List ℕ). EndsBelow before.next new.1)
           (λ (new : List ℕ × List ℕ × List ℕ). EndsBelow after.next new.1)
-          (λ new. EndsBelow-later before.next after.next new.1 (omega (arith, late, next_is))) steps.texts files.numbered)
+          (λ new. EndsBelow-later before.next after.next new.1 (omega (arith, late, next_is))) actions.texts files.numbered)
           (record {
             number = next.number;
             below = omega (arith, next_is);
@@ -191,41 +192,41 @@ AreFilesDrawn-file index pages before after steps page file text next normal one
       own = λ entries has.
           let so_far = files.own entries has in
           record {
-            of_pages = All-push (λ (new : List ℕ × List ℕ × List ℕ). IsOneOf pages new.0) steps.texts new so_far.of_pages
+            of_pages = All-push (λ (new : List ℕ × List ℕ × List ℕ). IsOneOf pages new.0) actions.texts new so_far.of_pages
                 one;
-            next_to = All-push (λ (new : List ℕ × List ℕ × List ℕ). IsNextTo new.0 new.1) steps.texts new so_far.next_to
+            next_to = All-push (λ (new : List ℕ × List ℕ × List ℕ). IsNextTo new.0 new.1) actions.texts new so_far.next_to
                 (record { number = next.number; next = ends; spelled = next.file_of.normal_text.spelled });
-            unused = All-push (λ (new : List ℕ × List ℕ × List ℕ). IsNoneAt entries (components new.1)) steps.texts new
+            unused = All-push (λ (new : List ℕ × List ℕ × List ℕ). IsNoneAt entries (components new.1)) actions.texts new
                 so_far.unused
                 (next.unused entries (subst (Indexes entries) (sym drawn.entries) has));
-            different = all_pairs_push (λ (one other : List ℕ × List ℕ × List ℕ). one.1 ≢ other.1) steps.texts new
+            different = all_pairs_push (λ (one other : List ℕ × List ℕ × List ℕ). one.1 ≢ other.1) actions.texts new
                 so_far.different
-                (λ k d l. EndsBelow-other (get_or steps.texts k d).1 file before.next next.number (files.numbered k d l)
+                (λ k d l. EndsBelow-other (get_or actions.texts k d).1 file before.next next.number (files.numbered k d l)
                 next.late next.fits (directory (components page)) ends);
-            no_name = All-push (λ (new : List ℕ × List ℕ × List ℕ). All (λ between. new.1 ≢ between) (names_left steps))
-                steps.texts new so_far.no_name
-                (All-weaker (IsNumbered before.next) (λ between. file ≢ between)
-                (λ between is same. EndsBelow-other between file before.next next.number
-                (EndsBelow-IsNumbered before.next between is) next.late next.fits (directory (components page)) ends
-                (sym same)) (names_left steps) drawn.numbered);
+            no_name = All-push (λ (new : List ℕ × List ℕ × List ℕ). All (λ staging. new.1 ≢ staging) (names_left actions))
+                actions.texts new so_far.no_name
+                (All-weaker (IsNumbered before.next) (λ staging. file ≢ staging)
+                (λ staging is same. EndsBelow-other staging file before.next next.number
+                (EndsBelow-IsNumbered before.next staging is) next.late next.fits (directory (components page)) ends
+                (sym same)) (names_left actions) drawn.numbered);
           };
     }
 
--- one name in between more
-pub AreFilesDrawn-name : (index : PlaceIndex) (pages : List (List Step)) (before after : FreeNames) (steps more : StepTexts)
-    (between : List ℕ) → IsDrawn before after between → more.texts ≡ steps.texts
-    → names_left more ≡ names_left steps ++ between ∷ [] → AreFilesDrawn index pages before steps
+-- one staging name more
+pub AreFilesDrawn-name : (index : PlaceIndex) (pages : List (List Step)) (before after : FreeNames) (actions more : ActionTexts)
+    (staging : List ℕ) → IsDrawn before after staging → more.texts ≡ actions.texts
+    → names_left more ≡ names_left actions ++ staging ∷ [] → AreFilesDrawn index pages before actions
     → AreFilesDrawn index pages after more
-AreFilesDrawn-name index pages before after steps more between next texts left files =
+AreFilesDrawn-name index pages before after actions more staging next texts left files =
     let late = next.late in
     let next_is = next.next in
-    let ends : components between ≡ [] ++ name (numbered_name next.number) ∷ [] =
+    let ends : components staging ≡ [] ++ name (numbered_name next.number) ∷ [] =
     ap components next.name_is ∙ components-numbered_name next.number next.fits in
     record {
       numbered = same_texts (λ new. EndsBelow after.next new.1)
           (All-weaker (λ (new : List ℕ × List ℕ × List ℕ). EndsBelow before.next new.1)
           (λ (new : List ℕ × List ℕ × List ℕ). EndsBelow after.next new.1)
-          (λ new. EndsBelow-later before.next after.next new.1 (omega (arith, late, next_is))) steps.texts files.numbered);
+          (λ new. EndsBelow-later before.next after.next new.1 (omega (arith, late, next_is))) actions.texts files.numbered);
       own = λ entries has.
           let so_far = files.own entries has in
           record {
@@ -234,33 +235,33 @@ AreFilesDrawn-name index pages before after steps more between next texts left f
             unused = same_texts (λ new. IsNoneAt entries (components new.1)) so_far.unused;
             different = subst (AllPairs (λ (one other : List ℕ × List ℕ × List ℕ). one.1 ≢ other.1)) (sym texts)
                 so_far.different;
-            no_name = same_texts (λ new. All (λ between. new.1 ≢ between) (names_left more))
-                (λ k d l. subst (All (λ between. (get_or steps.texts k d).1 ≢ between)) (sym left)
-                (All-push (λ between. (get_or steps.texts k d).1 ≢ between) (names_left steps) between
+            no_name = same_texts (λ new. All (λ staging. new.1 ≢ staging) (names_left more))
+                (λ k d l. subst (All (λ staging. (get_or actions.texts k d).1 ≢ staging)) (sym left)
+                (All-push (λ staging. (get_or actions.texts k d).1 ≢ staging) (names_left actions) staging
                 (so_far.no_name k d l)
-                (EndsBelow-other (get_or steps.texts k d).1 between before.next next.number (files.numbered k d l) next.late
+                (EndsBelow-other (get_or actions.texts k d).1 staging before.next next.number (files.numbered k d l) next.late
                 next.fits [] ends)));
           };
     }
   where
-    same_texts : (P : List ℕ × List ℕ × List ℕ → Type 0) → All P steps.texts → All P more.texts
+    same_texts : (P : List ℕ × List ℕ × List ℕ → Type 0) → All P actions.texts → All P more.texts
     same_texts P = subst (All P) (sym texts)
 
 -- the same in another order
-pub HaveOwnFiles-reordered : (entries pages : List (List Step)) (steps more : StepTexts)
-    → IsPermutation steps.apart more.apart → more.texts ≡ steps.texts → HaveOwnFiles entries pages steps
+pub HaveOwnFiles-reordered : (entries pages : List (List Step)) (actions more : ActionTexts)
+    → IsPermutation actions.staged more.staged → more.texts ≡ actions.texts → HaveOwnFiles entries pages actions
     → HaveOwnFiles entries pages more
-HaveOwnFiles-reordered entries pages steps more moved texts own = record {
+HaveOwnFiles-reordered entries pages actions more moved texts own = record {
   of_pages = same_texts (λ new. IsOneOf pages new.0) own.of_pages;
   next_to = same_texts (λ new. IsNextTo new.0 new.1) own.next_to;
   unused = same_texts (λ new. IsNoneAt entries (components new.1)) own.unused;
   different = subst (AllPairs (λ (one other : List ℕ × List ℕ × List ℕ). one.1 ≢ other.1)) (sym texts) own.different;
-  no_name = same_texts (λ new. All (λ between. new.1 ≢ between) (names_left more))
-      (All-weaker (λ (new : List ℕ × List ℕ × List ℕ). All (λ between. new.1 ≢ between) (names_left steps))
-      (λ (new : List ℕ × List ℕ × List ℕ). All (λ between. new.1 ≢ between) (names_left more))
-      (λ new all. All-permutation (λ between. new.1 ≢ between) (names_left steps) (names_left more)
-      (IsPermutation-map (λ (step : List ℕ × List ℕ). step.1) steps.apart more.apart moved) all) steps.texts own.no_name);
+  no_name = same_texts (λ new. All (λ staging. new.1 ≢ staging) (names_left more))
+      (All-weaker (λ (new : List ℕ × List ℕ × List ℕ). All (λ staging. new.1 ≢ staging) (names_left actions))
+      (λ (new : List ℕ × List ℕ × List ℕ). All (λ staging. new.1 ≢ staging) (names_left more))
+      (λ new all. All-permutation (λ staging. new.1 ≢ staging) (names_left actions) (names_left more)
+      (IsPermutation-map (λ (step : List ℕ × List ℕ). step.1) actions.staged more.staged moved) all) actions.texts own.no_name);
 }
   where
-    same_texts : (P : List ℕ × List ℕ × List ℕ → Type 0) → All P steps.texts → All P more.texts
+    same_texts : (P : List ℕ × List ℕ × List ℕ → Type 0) → All P actions.texts → All P more.texts
     same_texts P = subst (All P) (sym texts)

@@ -15,9 +15,9 @@ use Rattle.relative_path.proofs.ForCallers.{IsSame-sym, IsSame-trans}
 use Rattle.relative_path_moves.specs.Moves.{Move, move_at, AreApart}
 use Rattle.relative_path_places.specs.PlaceIndex.{IsNoneAt, path_at}
 use Rattle.relmove_checks.specs.Trees.{AreDistinct}
-use Rattle.relmove_steps.specs.BetweenNames.{numbered_name}
+use Rattle.relmove_steps.specs.StagingNames.{numbered_name}
 use Rattle.relmove_steps.specs.NewFiles.{LeaveOnce, EndsBelow, StaysThere, LeavesToo, LeaveFromEntries}
-use Rattle.relmove_steps.specs.Steps.{StepTexts, with_carried, with_removed, LeavesFrom, of_move, of_page, of_text, OnlyTheseLeave, old_paths}
+use Rattle.relmove_steps.specs.Actions.{ActionTexts, with_carried, with_removed, LeavesFrom, of_move, of_page, of_text, OnlyTheseLeave, old_paths}
 use Rattle.relmove_steps.proofs.NamesLemmas.{bytes_eq-flips}
 use Rattle.relmove_steps.proofs.NewFilesLemmas.{EndsBelow-other}
 
@@ -25,57 +25,57 @@ use Rattle.relmove_steps.proofs.NewFilesLemmas.{EndsBelow-other}
 
 -- ---- one thing more leaves
 
-LeaveOnce-push : (steps : StepTexts) (from between : List ℕ) → All (λ step. step.0 ≢ from) steps.apart → LeaveOnce steps
-    → AllPairs (λ one other. one.0 ≢ other.0) (steps.apart ++ (from, between) ∷ [])
-LeaveOnce-push steps from between others once =
-    all_pairs_push (λ (one other : List ℕ × List ℕ). one.0 ≢ other.0) steps.apart (from, between) once others
+LeaveOnce-push : (actions : ActionTexts) (from staging : List ℕ) → All (λ step. step.0 ≢ from) actions.staged → LeaveOnce actions
+    → AllPairs (λ one other. one.0 ≢ other.0) (actions.staged ++ (from, staging) ∷ [])
+LeaveOnce-push actions from staging others once =
+    all_pairs_push (λ (one other : List ℕ × List ℕ). one.0 ≢ other.0) actions.staged (from, staging) once others
 
-pub LeaveOnce-with_file : (steps : StepTexts) (from between to : List ℕ) → All (λ step. step.0 ≢ from) steps.apart
-    → LeaveOnce steps → LeaveOnce (with_carried steps from between to)
-LeaveOnce-with_file steps from between to = LeaveOnce-push steps from between
+pub LeaveOnce-with_file : (actions : ActionTexts) (from staging to : List ℕ) → All (λ step. step.0 ≢ from) actions.staged
+    → LeaveOnce actions → LeaveOnce (with_carried actions from staging to)
+LeaveOnce-with_file actions from staging to = LeaveOnce-push actions from staging
 
-module _ (steps : StepTexts) (cs : List Step) (from between : List ℕ) (is : IsNormalTextOf cs from)
-    (stays : StaysThere cs steps)
+module _ (actions : ActionTexts) (cs : List Step) (from staging : List ℕ) (is : IsNormalTextOf cs from)
+    (stays : StaysThere cs actions)
   where
-    others : All (λ step. step.0 ≢ from) steps.apart
+    others : All (λ step. step.0 ≢ from) actions.staged
     others k d l same = stays k d l (subst (IsNormalTextOf cs) (sym same) is)
 
-    pub LeaveOnce-with_removed : LeaveOnce steps → LeaveOnce (with_removed steps from between)
-    LeaveOnce-with_removed = LeaveOnce-push steps from between others
+    pub LeaveOnce-with_removed : LeaveOnce actions → LeaveOnce (with_removed actions from staging)
+    LeaveOnce-with_removed = LeaveOnce-push actions from staging others
 
-    pub LeaveOnce-with_carried : (to : List ℕ) → LeaveOnce steps → LeaveOnce (with_carried steps from between to)
-    LeaveOnce-with_carried to = LeaveOnce-push steps from between others
+    pub LeaveOnce-with_carried : (to : List ℕ) → LeaveOnce actions → LeaveOnce (with_carried actions from staging to)
+    LeaveOnce-with_carried to = LeaveOnce-push actions from staging others
 
-pub LeavesToo-same : (from : List ℕ) (steps : StepTexts) → LeavesToo from steps steps
-LeavesToo-same from steps =
-    All-weaker (Contains steps.apart) (λ (step : List ℕ × List ℕ). Contains steps.apart step ⊎ (step.0 ≡ from))
-    (λ step has. inl has) steps.apart (All-contains_itself steps.apart)
+pub LeavesToo-same : (from : List ℕ) (actions : ActionTexts) → LeavesToo from actions actions
+LeavesToo-same from actions =
+    All-weaker (Contains actions.staged) (λ (step : List ℕ × List ℕ). Contains actions.staged step ⊎ (step.0 ≡ from))
+    (λ step has. inl has) actions.staged (All-contains_itself actions.staged)
 
-pub LeavesToo-with_removed : (from between : List ℕ) (steps : StepTexts)
-    → LeavesToo from steps (with_removed steps from between)
-LeavesToo-with_removed from between steps =
-    All-push (λ (step : List ℕ × List ℕ). Contains steps.apart step ⊎ (step.0 ≡ from)) steps.apart (from, between)
-    (LeavesToo-same from steps) (inr refl)
+pub LeavesToo-with_removed : (from staging : List ℕ) (actions : ActionTexts)
+    → LeavesToo from actions (with_removed actions from staging)
+LeavesToo-with_removed from staging actions =
+    All-push (λ (step : List ℕ × List ℕ). Contains actions.staged step ⊎ (step.0 ≡ from)) actions.staged (from, staging)
+    (LeavesToo-same from actions) (inr refl)
 
 -- the same in another order
-pub LeaveOnce-IsPermutation : (steps more : StepTexts) → IsPermutation steps.apart more.apart → LeaveOnce steps
+pub LeaveOnce-IsPermutation : (actions more : ActionTexts) → IsPermutation actions.staged more.staged → LeaveOnce actions
     → LeaveOnce more
-LeaveOnce-IsPermutation steps more moved once =
+LeaveOnce-IsPermutation actions more moved once =
     let one = λ (step : List ℕ × List ℕ). step.0 in
-    let froms : AllPairs (λ one other. one ≢ other) (map one steps.apart) =
+    let froms : AllPairs (λ one other. one ≢ other) (map one actions.staged) =
     λ i j d l within.
-    let count = length-map steps.apart one in
-    let first = get_or-map one steps.apart i (d, []) d (omega (arith, l, within, count)) in
-    let second = get_or-map one steps.apart j (d, []) d (omega (arith, within, count)) in
+    let count = length-map actions.staged one in
+    let first = get_or-map one actions.staged i (d, []) d (omega (arith, l, within, count)) in
+    let second = get_or-map one actions.staged j (d, []) d (omega (arith, within, count)) in
     λ same. once i j (d, []) l (omega (arith, within, count)) (sym first ∙ same ∙ second) in
-    let distinct = IsDistinct-IsPermutation bytes_eq bytes_eq-flips (map one steps.apart) (map one more.apart)
-    (IsPermutation-map one steps.apart more.apart moved)
-    (IsDistinct-from_AllPairs bytes_eq-Decides (map one steps.apart) froms) in
-    let others = AllPairs-from_IsDistinct bytes_eq-Decides (map one more.apart) distinct in
+    let distinct = IsDistinct-IsPermutation bytes_eq bytes_eq-flips (map one actions.staged) (map one more.staged)
+    (IsPermutation-map one actions.staged more.staged moved)
+    (IsDistinct-from_AllPairs bytes_eq-Decides (map one actions.staged) froms) in
+    let others = AllPairs-from_IsDistinct bytes_eq-Decides (map one more.staged) distinct in
     λ i j d l within.
-    let count = length-map more.apart one in
-    let first = get_or-map one more.apart i d d.0 (omega (arith, l, within)) in
-    let second = get_or-map one more.apart j d d.0 within in
+    let count = length-map more.staged one in
+    let first = get_or-map one more.staged i d d.0 (omega (arith, l, within)) in
+    let second = get_or-map one more.staged j d d.0 within in
     λ same. others i j d.0 l (omega (arith, within, count)) (first ∙ same ∙ sym second)
 
 -- ---- an entry is there, or none is
@@ -111,14 +111,14 @@ module _ (moves : List Move) (k : ℕ) (within : k < length moves) where
   move_at-take j less = get_or-take k moves j some less
 
   -- what leaves by some moves leaves by more moves
-  pub OnlyTheseLeave-more_moves : (paths : List (List Step)) (steps : StepTexts) → OnlyTheseLeave (take k moves) paths steps
-      → OnlyTheseLeave (take (k + 1) moves) paths steps
-  OnlyTheseLeave-more_moves paths steps =
-      All-weaker (λ (step : List ℕ × List ℕ). LeavesFrom (take k moves) paths steps.texts step.0)
-      (λ (step : List ℕ × List ℕ). LeavesFrom (take (k + 1) moves) paths steps.texts step.0) (λ step. by step.0) steps.apart
+  pub OnlyTheseLeave-more_moves : (paths : List (List Step)) (actions : ActionTexts) → OnlyTheseLeave (take k moves) paths actions
+      → OnlyTheseLeave (take (k + 1) moves) paths actions
+  OnlyTheseLeave-more_moves paths actions =
+      All-weaker (λ (step : List ℕ × List ℕ). LeavesFrom (take k moves) paths actions.texts step.0)
+      (λ (step : List ℕ × List ℕ). LeavesFrom (take (k + 1) moves) paths actions.texts step.0) (λ step. by step.0) actions.staged
     where
-      by : (from : List ℕ) → LeavesFrom (take k moves) paths steps.texts from
-          → LeavesFrom (take (k + 1) moves) paths steps.texts from
+      by : (from : List ℕ) → LeavesFrom (take k moves) paths actions.texts from
+          → LeavesFrom (take (k + 1) moves) paths actions.texts from
       by from (of_move j l is) =
           let less : j < k = omega (arith, l, count) in
           let here = move_at-take j less ∙ sym (get_or-take (k + 1) moves j some (omega (arith, less))) in
@@ -127,13 +127,13 @@ module _ (moves : List Move) (k : ℕ) (within : k < length moves) where
       by from (of_text page text has) = of_text page text has
 
   -- nothing leaves yet from where the next move leads from
-  pub StaysThere-move : (steps : StepTexts) → AreApart moves → steps.texts ≡ [] → OnlyTheseLeave (take k moves) [] steps
-      → StaysThere (move_at moves k).old steps
-  StaysThere-move steps apart none =
-      All-weaker (λ (step : List ℕ × List ℕ). LeavesFrom (take k moves) [] steps.texts step.0)
-      (λ (step : List ℕ × List ℕ). ¬ IsNormalTextOf (move_at moves k).old step.0) (λ step. by step.0) steps.apart
+  pub StaysThere-move : (actions : ActionTexts) → AreApart moves → actions.texts ≡ [] → OnlyTheseLeave (take k moves) [] actions
+      → StaysThere (move_at moves k).old actions
+  StaysThere-move actions apart none =
+      All-weaker (λ (step : List ℕ × List ℕ). LeavesFrom (take k moves) [] actions.texts step.0)
+      (λ (step : List ℕ × List ℕ). ¬ IsNormalTextOf (move_at moves k).old step.0) (λ step. by step.0) actions.staged
     where
-      by : (from : List ℕ) → LeavesFrom (take k moves) [] steps.texts from → ¬ IsNormalTextOf (move_at moves k).old from
+      by : (from : List ℕ) → LeavesFrom (take k moves) [] actions.texts from → ¬ IsNormalTextOf (move_at moves k).old from
       by from (of_move j l is) there =
           let less : j < k = omega (arith, l, count) in
           let old = subst (λ (move : Move). IsNormalTextOf move.old from) (move_at-take j less) is in
@@ -145,14 +145,14 @@ module _ (moves : List Move) (k : ℕ) (within : k < length moves) where
 
 -- ---- the pages, one after another
 
-pub OnlyTheseLeave-more_pages : (moves : List Move) (paths : List (List Step)) (k : ℕ) (steps : StepTexts) → k < length paths
-    → OnlyTheseLeave moves (take k paths) steps → OnlyTheseLeave moves (take (k + 1) paths) steps
-OnlyTheseLeave-more_pages moves paths k steps within =
-    All-weaker (λ (step : List ℕ × List ℕ). LeavesFrom moves (take k paths) steps.texts step.0)
-    (λ (step : List ℕ × List ℕ). LeavesFrom moves (take (k + 1) paths) steps.texts step.0) (λ step. by step.0) steps.apart
+pub OnlyTheseLeave-more_pages : (moves : List Move) (paths : List (List Step)) (k : ℕ) (actions : ActionTexts) → k < length paths
+    → OnlyTheseLeave moves (take k paths) actions → OnlyTheseLeave moves (take (k + 1) paths) actions
+OnlyTheseLeave-more_pages moves paths k actions within =
+    All-weaker (λ (step : List ℕ × List ℕ). LeavesFrom moves (take k paths) actions.texts step.0)
+    (λ (step : List ℕ × List ℕ). LeavesFrom moves (take (k + 1) paths) actions.texts step.0) (λ step. by step.0) actions.staged
   where
-    by : (from : List ℕ) → LeavesFrom moves (take k paths) steps.texts from
-        → LeavesFrom moves (take (k + 1) paths) steps.texts from
+    by : (from : List ℕ) → LeavesFrom moves (take k paths) actions.texts from
+        → LeavesFrom moves (take (k + 1) paths) actions.texts from
     by from (of_move j l is) = of_move j l is
     by from (of_page j l is) =
         let count = length-take-le k paths (omega (arith, within)) in
@@ -163,15 +163,15 @@ OnlyTheseLeave-more_pages moves paths k steps within =
     by from (of_text page text has) = of_text page text has
 
 -- nothing leaves yet from where the next page is, if no move leads from there
-pub StaysThere-page : (entries before : List (List Step)) (moves : List Move) (steps : StepTexts) (cs : List Step)
+pub StaysThere-page : (entries before : List (List Step)) (moves : List Move) (actions : ActionTexts) (cs : List Step)
     → IsNoneAt (old_paths moves) cs → IsNoneAt before cs → ¬ IsNoneAt entries cs
-    → All (λ new. IsNoneAt entries (components new.1)) steps.texts → OnlyTheseLeave moves before steps
-    → StaysThere cs steps
-StaysThere-page entries before moves steps cs no_move no_page entry unused =
-    All-weaker (λ (step : List ℕ × List ℕ). LeavesFrom moves before steps.texts step.0)
-    (λ (step : List ℕ × List ℕ). ¬ IsNormalTextOf cs step.0) (λ step. by step.0) steps.apart
+    → All (λ new. IsNoneAt entries (components new.1)) actions.texts → OnlyTheseLeave moves before actions
+    → StaysThere cs actions
+StaysThere-page entries before moves actions cs no_move no_page entry unused =
+    All-weaker (λ (step : List ℕ × List ℕ). LeavesFrom moves before actions.texts step.0)
+    (λ (step : List ℕ × List ℕ). ¬ IsNormalTextOf cs step.0) (λ step. by step.0) actions.staged
   where
-    by : (from : List ℕ) → LeavesFrom moves before steps.texts from → ¬ IsNormalTextOf cs from
+    by : (from : List ℕ) → LeavesFrom moves before actions.texts from → ¬ IsNormalTextOf cs from
     by from (of_move k l is) there =
         let within : k < length (old_paths moves) = rw (length-map moves (λ (move : Move). move.old)) l in
         let here : path_at (old_paths moves) k ≡ (move_at moves k).old =
@@ -180,7 +180,7 @@ StaysThere-page entries before moves steps cs no_move no_page entry unused =
     by from (of_page k l is) there = no_page k l (IsSame-trans there.same (IsSame-sym is.same))
     by from (of_text page text has) there =
         entry (IsNoneAt-same entries cs (components from) there.same
-        (All-contains (λ (new : List ℕ × List ℕ × List ℕ). IsNoneAt entries (components new.1)) steps.texts
+        (All-contains (λ (new : List ℕ × List ℕ × List ℕ). IsNoneAt entries (components new.1)) actions.texts
         (page, from, text) unused has))
 
 -- a new file isn't what leaves from an entry
@@ -190,15 +190,15 @@ module _ (entries : List (List Step)) (file : List ℕ) (unused : IsNoneAt entri
       entry (IsNoneAt-same entries cs (components file) (subst (λ text. IsSame cs (components text)) same is.same) unused)
 
   -- so nothing leaves yet from a new file
-  pub file-leaves : (paths : List (List Step)) (moves : List Move) (before steps more : StepTexts) (k next number : ℕ)
+  pub file-leaves : (paths : List (List Step)) (moves : List Move) (before actions more : ActionTexts) (k next number : ℕ)
       (page : List ℕ) (above : List Step) → k < length paths → LeaveFromEntries entries moves paths
       → All (λ new. EndsBelow next new.1) before.texts → next ≤ number → number < 2 ^ 64
       → components file ≡ above ++ name (numbered_name number) ∷ []
-      → OnlyTheseLeave moves (take k paths) before → steps.apart ≡ before.apart
-      → IsNormalTextOf (path_at paths k) page → LeavesToo page steps more → All (λ step. step.0 ≢ file) more.apart
-  file-leaves paths moves before steps more k next number page above within leave numbered late fits ends only same page_is =
-      All-weaker (λ (step : List ℕ × List ℕ). Contains steps.apart step ⊎ (step.0 ≡ page))
-      (λ (step : List ℕ × List ℕ). step.0 ≢ file) by more.apart
+      → OnlyTheseLeave moves (take k paths) before → actions.staged ≡ before.staged
+      → IsNormalTextOf (path_at paths k) page → LeavesToo page actions more → All (λ step. step.0 ≢ file) more.staged
+  file-leaves paths moves before actions more k next number page above within leave numbered late fits ends only same page_is =
+      All-weaker (λ (step : List ℕ × List ℕ). Contains actions.staged step ⊎ (step.0 ≡ page))
+      (λ (step : List ℕ × List ℕ). step.0 ≢ file) by more.staged
     where
       left : (from : List ℕ) → LeavesFrom moves (take k paths) before.texts from → from ≢ file
       left from (of_move j l is) = file-other (move_at moves j).old from is (leave.olds j l)
@@ -213,10 +213,10 @@ module _ (entries : List (List Step)) (file : List ℕ) (unused : IsNoneAt entri
           (All-contains (λ (new : List ℕ × List ℕ × List ℕ). EndsBelow next new.1) before.texts (other, from, text) numbered
           has) late fits above ends
 
-      by : (step : List ℕ × List ℕ) → Contains steps.apart step ⊎ (step.0 ≡ page) → step.0 ≢ file
+      by : (step : List ℕ × List ℕ) → Contains actions.staged step ⊎ (step.0 ≡ page) → step.0 ≢ file
       by step (inl has) =
           left step.0
-          (All-contains (λ (step : List ℕ × List ℕ). LeavesFrom moves (take k paths) before.texts step.0) before.apart step
-          only (subst (λ apart. Contains apart step) same has))
+          (All-contains (λ (step : List ℕ × List ℕ). LeavesFrom moves (take k paths) before.texts step.0) before.staged step
+          only (subst (λ staged. Contains staged step) same has))
       by step (inr is) = λ equal.
           file-other (path_at paths k) page page_is (leave.pages_there k within) (sym is ∙ equal)

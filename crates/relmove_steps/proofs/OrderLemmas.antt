@@ -1,5 +1,5 @@
 -- Sorted paths: what is below a path comes after it, and before it if they are turned round.
-use Rattle.std.proofs.Common.{◌≡◌, ℕ, ◌<◌, ◌≤◌, ◌-◌, false, true≢false, List, [], ◌∷◌, ◌++◌, map, length, get_or, refl, sym, ap, subst, ◌∙◌, append_assoc, arith}
+use Rattle.std.proofs.Common.{AllPairs, ◌≡◌, ◌≢◌, ℕ, ◌<◌, ◌≤◌, ◌-◌, false, true≢false, List, [], ◌∷◌, ◌++◌, map, length, get_or, refl, sym, ap, subst, ◌∙◌, append_assoc, arith}
 use Rattle.std.proofs.lemmas.Bool.Decides.{nat_tests}
 use Rattle.std.proofs.lemmas.Cmp.{nat_cmp_total, lists_total}
 use Rattle.std.proofs.lemmas.List.{get_or-map, get_or-reverse, length-map, length-reverse, map_push, reverse-append, reverse-reverse}
@@ -12,7 +12,7 @@ use Rattle.std.specs.Ordering.{is_lt, nat_cmp, ordering_then}
 use Rattle.std.specs.declared.cmp.Ordering.TheVariants.{Less, Equal, Greater}
 use Rattle.std.specs.declared.cmp.Ordering.{Ordering}
 use Rattle.relative_path.specs.Steps.{slash}
-use Rattle.relmove_steps.specs.Steps.{IsBelow, BelowFirst, AboveFirst}
+use Rattle.relmove_steps.specs.Actions.{IsBelow, BelowFirst, AboveFirst}
 
 pub nat_cmp-self : (x : ℕ) → nat_cmp x x ≡ Equal
 nat_cmp-self x = grind (arith, nat_tests)
@@ -68,6 +68,15 @@ BelowFirst-reverse paths above = λ i j l within below.
       sym (get_or-reverse paths j [] w) ∙ below.1
           ∙ ap (λ top. top ++ slash ∷ below.0) (get_or-reverse paths i [] v),
     )
+
+-- texts that differ, turned round
+pub AllDifferent-reverse : (texts : List (List ℕ)) → AllPairs (λ one other. one ≢ other) texts
+    → AllPairs (λ one other. one ≢ other) (reverse texts)
+AllDifferent-reverse texts differ = λ i j d l within same.
+    let w : j < length texts = rw length-reverse at within in
+    let v : i < length texts = omega (arith, l, w) in
+    differ (length texts - 1 - j) (length texts - 1 - i) d (omega (arith, l, w)) (omega (arith, v))
+    (sym (get_or-reverse texts j d w) ∙ sym same ∙ get_or-reverse texts i d v)
 
 pub map-reverse : {X Y : Type 0} (f : X → Y) (xs : List X) → map f (reverse xs) ≡ reverse (map f xs)
 map-reverse f [] = refl

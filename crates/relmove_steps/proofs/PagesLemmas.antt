@@ -3,8 +3,7 @@ use Rattle.std.proofs.Common.{◌≡◌, ℕ, ◌<◌, ◌≤◌, ◌+◌, Bool,
 use Rattle.std.specs.List.{AllZip}
 use Rattle.std.proofs.lemmas.List.{get_or_at, length-append, length-take-le, take_all, take_more}
 use Rattle.std.proofs.lemmas.Slice.Zip.{all_zipped_more}
-use Rattle.relative_path.specs.Steps.{Step}
-use Rattle.relative_path.specs.RelativePath.{path_components}
+use Rattle.relative_path.specs.Steps.{Step, components}
 use Rattle.relative_path_links.specs.declared.site.MovedSitePage.{MovedSitePage}
 use Rattle.relative_path_links.specs.declared.site.SitePage.{SitePage}
 use Rattle.relative_path_places.specs.PlaceIndex.{path_at}
@@ -21,7 +20,7 @@ length-changed_paths (page ∷ pages) [] = omega arith
 length-changed_paths (page ∷ pages) (new ∷ news) = either (is_some new.text) (length-changed_paths pages news)
   where
     either : (changes : Bool) → length (changed_paths pages news) ≤ length pages
-        → length (if changes then path_components page.path ∷ changed_paths pages news else changed_paths pages news)
+        → length (if changes then components page.path.now ∷ changed_paths pages news else changed_paths pages news)
         ≤ length (page ∷ pages)
     either true so_far = omega (arith, so_far)
     either false so_far = omega (arith, so_far)
@@ -36,11 +35,11 @@ changed_paths-append (page ∷ pages) more (new ∷ news) others long =
   where
     either : (changes : Bool)
         → changed_paths (pages ++ more) (news ++ others) ≡ changed_paths pages news ++ changed_paths more others
-        → (if changes then path_components page.path ∷ changed_paths (pages ++ more) (news ++ others)
+        → (if changes then components page.path.now ∷ changed_paths (pages ++ more) (news ++ others)
         else changed_paths (pages ++ more) (news ++ others))
-        ≡ (if changes then path_components page.path ∷ changed_paths pages news else changed_paths pages news)
+        ≡ (if changes then components page.path.now ∷ changed_paths pages news else changed_paths pages news)
         ++ changed_paths more others
-    either true rest = ap (λ paths. path_components page.path ∷ paths) rest
+    either true rest = ap (λ paths. components page.path.now ∷ paths) rest
     either false rest = rest
 
 -- the pages so far, and the next one
@@ -83,35 +82,35 @@ module _ (pages : List SitePage) (news : List MovedSitePage) (long : length news
     pub count_changed-same : is_some new.text ≡ false → count_changed pages news (i + 1) ≡ count_changed pages news i
     count_changed-same stays =
         ap length next ∙ length-append front (changed_paths (page ∷ []) (new ∷ []))
-        ∙ ap (λ changes. length front + length (if changes then path_components page.path ∷ [] else [])) stays
+        ∙ ap (λ changes. length front + length (if changes then components page.path.now ∷ [] else [])) stays
         ∙ omega arith
 
     -- a page that changes
     pub count_changed-more : is_some new.text ≡ true → count_changed pages news (i + 1) ≡ count_changed pages news i + 1
     count_changed-more changes =
         ap length next ∙ length-append front (changed_paths (page ∷ []) (new ∷ []))
-        ∙ ap (λ changes. length front + length (if changes then path_components page.path ∷ [] else [])) changes
+        ∙ ap (λ changes. length front + length (if changes then components page.path.now ∷ [] else [])) changes
 
     all_changing : is_some new.text ≡ true
         → changed_paths pages news
-        ≡ front ++ path_components page.path ∷ changed_paths (drop (i + 1) pages) (drop (i + 1) news)
+        ≡ front ++ components page.path.now ∷ changed_paths (drop (i + 1) pages) (drop (i + 1) news)
     all_changing changes =
         all ∙ ap (λ changes. front ++ (if changes
-        then path_components page.path ∷ changed_paths (drop (i + 1) pages) (drop (i + 1) news)
+        then components page.path.now ∷ changed_paths (drop (i + 1) pages) (drop (i + 1) news)
         else changed_paths (drop (i + 1) pages) (drop (i + 1) news))) changes
 
     -- it is the next of those that change
     pub count_changed-within : is_some new.text ≡ true → count_changed pages news i < length (changed_paths pages news)
     count_changed-within changes =
         let count = ap length (all_changing changes)
-        ∙ length-append front (path_components page.path ∷ changed_paths (drop (i + 1) pages) (drop (i + 1) news)) in
+        ∙ length-append front (components page.path.now ∷ changed_paths (drop (i + 1) pages) (drop (i + 1) news)) in
         omega (arith, count)
 
     pub path_at-changed_paths : is_some new.text ≡ true
-        → path_at (changed_paths pages news) (count_changed pages news i) ≡ path_components page.path
+        → path_at (changed_paths pages news) (count_changed pages news i) ≡ components page.path.now
     path_at-changed_paths changes =
         ap (λ paths. get_or paths (count_changed pages news i) []) (all_changing changes)
-        ∙ get_or_at front (path_components page.path) (changed_paths (drop (i + 1) pages) (drop (i + 1) news)) []
+        ∙ get_or_at front (components page.path.now) (changed_paths (drop (i + 1) pages) (drop (i + 1) news)) []
         (count_changed pages news i) refl
 
     -- what holds of each page and its new page so far, and of the next ones

@@ -1,14 +1,16 @@
 -- The directories that moves leave, and those that a run makes.
-use Rattle.std.specs.Prelude.{◌≡◌, ◌≢◌, ◌<◌, ℕ, List, [], ◌++◌, String, All, AllPairs, Contains, length, map, slice_index_or, string_bytes}
-use Rattle.std.specs.List.{AllZip, zip}
+use Rattle.std.specs.Prelude.{◌≡◌, ◌≢◌, ◌<◌, ℕ, List, [], ◌++◌, String, All, AllPairs, Contains, Some, length, map, slice_index_or, string_bytes}
+use Rattle.std.specs.List.{AllZip, Any, zip}
 use Rattle.std.specs.declared.alloc.Global.{Global}
 use Rattle.relative_path.specs.Steps.{Step, components}
 use Rattle.relative_path.specs.Normalizing.{IsNormalTextOf}
+use Rattle.relative_path_links.specs.declared.edit.Edit.{Edit}
+use Rattle.relative_path_links.specs.declared.site.MovedSitePage.{MovedSitePage}
 use Rattle.relative_path_moves.specs.Moves.{Move, move_at, AreApart}
 use Rattle.relative_path_places.specs.PlaceIndex.{IsNoneAt}
 use Rattle.relative_path_moves.specs.TreeMoves.{AtTreePath}
 use Rattle.relmove_checks.specs.Moves.{move_of}
-use Rattle.relmove_steps.specs.Steps.{AboveFirst, StepTexts}
+use Rattle.relmove_steps.specs.Actions.{AboveFirst, ActionTexts}
 
 -- the components begin with this front, which is neither empty nor all of them
 pub record HasDirectory (cs front : List Step) : Type 0 where
@@ -33,23 +35,54 @@ IsLeftByMove table moves text = (k : ℕ) × (k < length moves) × IsAboveAfter 
 abbrev pub AreLeftByMoves : List Move → List Move → List (String Global) → Type 0
 AreLeftByMoves table moves texts = All (λ text. IsLeftByMove table moves (string_bytes text)) texts
 
+-- the directory is above the path in its normal form
+pub record IsDirectoryAbove (path directory : List Step) : Type 0 where
+  pub normal : List ℕ
+  pub normal_of : IsNormalTextOf path normal
+  pub above : HasDirectory (components normal) directory
+
+-- the link of the edit leads to where the text is the normal path after the moves
+pub record LinksTo (table : List Move) (text : List ℕ) (edit : Edit) : Type 0 where
+  pub file : List ℕ
+  pub file_is : edit.file ≡ Some file
+  pub now : AtTreePath table (components file) (λ target. IsNormalTextOf target text)
+
+-- a link of the page leads there
+abbrev pub HasLinkTo : List Move → List ℕ → MovedSitePage → Type 0
+HasLinkTo table text new = Any (LinksTo table text) new.edits.items
+
+-- a link of one of the pages leads there
+abbrev pub IsLinked : List Move → List MovedSitePage → List ℕ → Type 0
+IsLinked table news text = Any (HasLinkTo table text) news
+
+-- the text is where the directory is after the moves, and one of the texts if P holds of it
+pub record HasLeft (table : List Move) (texts : List (List ℕ)) (P : List ℕ → Type 0) (directory : List Step) : Type 0 where
+  pub text : List ℕ
+  pub now : AtTreePath table directory (λ target. IsNormalTextOf target text)
+  pub has : P text → Contains texts text
+
+-- no link leads to one of the texts, and they are those of all directories above old paths to which no link leads
+pub record AreAllLeft (table moves : List Move) (news : List MovedSitePage) (texts : List (List ℕ)) : Type 0 where
+  pub unlinked : All (λ text. ¬ IsLinked table news text) texts
+  pub complete : (k : ℕ) → k < length moves → (directory : List Step) → IsDirectoryAbove (move_at moves k).old directory
+      → HasLeft table texts (λ text. ¬ IsLinked table news text) directory
+
+-- the texts after are those before, without these
+pub record AreWithout (gone : List ℕ → Type 0) (before after : List (List ℕ)) : Type 0 where
+  pub kept : (text : List ℕ) → Contains before text → ¬ gone text → Contains after text
+  pub only : (text : List ℕ) → Contains after text → Contains before text × (¬ gone text)
+
 -- ---- the directories that a run makes
 
 -- one of the texts is the normal text of the components
 abbrev pub HaveTextOf : List (List ℕ) → List Step → Type 0
 HaveTextOf texts cs = (text : List ℕ) × Contains texts text × IsNormalTextOf cs text
 
--- the directory is above the path in its normal form
-pub record IsAbove (path directory : List Step) : Type 0 where
-  pub normal : List ℕ
-  pub normal_of : IsNormalTextOf path normal
-  pub above : HasDirectory (components normal) directory
-
 -- the directory is above the new path of one of the moves, and none of the paths after the moves leads there
 pub record IsMissing (moves : List Move) (after : List (List Step)) (directory : List Step) : Type 0 where
   pub move : ℕ
   pub within : move < length moves
-  pub above : IsAbove (move_at moves move).new directory
+  pub above : IsDirectoryAbove (move_at moves move).new directory
   pub none : IsNoneAt after directory
 
 -- the text is the normal text of such a directory
@@ -72,14 +105,14 @@ abbrev pub moves_to_names : List Move → List (List ℕ) → List Move
 moves_to_names moves names = map (λ pair. move_of pair.0.new (components pair.1)) (zip moves names)
 
 -- the text is the normal path of the directory after the moves
-abbrev pub IsTakenTo : List Move → List ℕ → List ℕ → Type 0
-IsTakenTo moves directory text = AtTreePath moves (components directory) (λ target. IsNormalTextOf target text)
+abbrev pub IsTextTakenTo : List Move → List ℕ → List ℕ → Type 0
+IsTextTakenTo moves directory text = AtTreePath moves (components directory) (λ target. IsNormalTextOf target text)
 
 -- the texts are those of the missing directories, each where these moves take it
 pub record AreTaken (moves news : List Move) (after : List (List Step)) (made : List (List ℕ)) : Type 0 where
   pub missing : List (List ℕ)
   pub are_missing : AreMissing moves after missing
-  pub taken : AllZip (IsTakenTo news) missing made
+  pub taken : AllZip (IsTextTakenTo news) missing made
 
 -- the missing directories are made where the moves to the names take them; no two of these moves have the same old path
 pub record AreMade (moves : List Move) (names : List (List ℕ)) (after : List (List Step)) (made : List (List ℕ)) : Type 0 where
@@ -87,16 +120,16 @@ pub record AreMade (moves : List Move) (names : List (List ℕ)) (after : List (
   pub taken : AreTaken moves (moves_to_names moves names) after made
 
 -- what is where the components lead leaves to the name
-abbrev pub LeavesTo : StepTexts → List Step → List ℕ → Type 0
-LeavesTo steps cs name = (old : List ℕ) × IsNormalTextOf cs old × Contains steps.apart (old, name)
+abbrev pub LeavesTo : ActionTexts → List Step → List ℕ → Type 0
+LeavesTo actions cs name = (old : List ℕ) × IsNormalTextOf cs old × Contains actions.staged (old, name)
 
 -- what is at the old paths of the moves leaves to the names, in order
-pub record LeaveToNames (moves : List Move) (names : List (List ℕ)) (steps : StepTexts) : Type 0 where
+pub record LeaveToNames (moves : List Move) (names : List (List ℕ)) (actions : ActionTexts) : Type 0 where
   pub count : length names ≡ length moves
-  pub each : (k : ℕ) → k < length moves → LeavesTo steps (move_at moves k).old (slice_index_or names k [])
+  pub each : (k : ℕ) → k < length moves → LeavesTo actions (move_at moves k).old (slice_index_or names k [])
 
--- the missing directories are made where the moves take them from the new paths to the names in between
-pub record MakesMissing (moves : List Move) (after : List (List Step)) (steps : StepTexts) (made : List (List ℕ)) : Type 0 where
-  pub between : List (List ℕ)
-  pub leave : LeaveToNames moves between steps
-  pub are_made : AreMade moves between after made
+-- the missing directories are made where the moves take them from the new paths to the staging names
+pub record MakesMissing (moves : List Move) (after : List (List Step)) (actions : ActionTexts) (made : List (List ℕ)) : Type 0 where
+  pub staging : List (List ℕ)
+  pub leave : LeaveToNames moves staging actions
+  pub are_made : AreMade moves staging after made

@@ -1,5 +1,5 @@
 pub mod Pages
-pub mod Steps
-pub mod BetweenNames
+pub mod Actions
+pub mod StagingNames
 pub mod Directories
 pub mod NewFiles

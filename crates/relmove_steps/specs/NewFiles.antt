@@ -8,9 +8,9 @@ use Rattle.relative_path_places.specs.PlaceIndex.{Indexes, IsNoneAt, path_at}
 use Rattle.relative_path_places.specs.declared.place_index.PlaceIndex.{PlaceIndex}
 use Rattle.relmove_checks.specs.Moves.{EachMove}
 use Rattle.relmove_checks.specs.Trees.{AreDistinct}
-use Rattle.relmove_steps.specs.declared.between.FreeNames.{FreeNames}
-use Rattle.relmove_steps.specs.BetweenNames.{numbered_name}
-use Rattle.relmove_steps.specs.Steps.{StepTexts, names_left}
+use Rattle.relmove_steps.specs.declared.staging.FreeNames.{FreeNames}
+use Rattle.relmove_steps.specs.StagingNames.{numbered_name}
+use Rattle.relmove_steps.specs.Actions.{ActionTexts, names_left}
 
 -- the text is the normal text of one of the paths
 abbrev pub IsOneOf : List (List Step) → List ℕ → Type 0
@@ -23,24 +23,24 @@ pub record IsNextTo (page file : List ℕ) : Type 0 where
   pub spelled : file ≡ spell (components file)
 
 -- each new text is of one of these pages and has a file of its own, next to the page: no entry is at the file, and the
--- file is no name in between
-pub record HaveOwnFiles (entries pages : List (List Step)) (steps : StepTexts) : Type 0 where
-  pub of_pages : All (λ new. IsOneOf pages new.0) steps.texts
-  pub next_to : All (λ new. IsNextTo new.0 new.1) steps.texts
-  pub unused : All (λ new. IsNoneAt entries (components new.1)) steps.texts
-  pub different : AllPairs (λ one other. one.1 ≢ other.1) steps.texts
-  pub no_name : All (λ new. All (λ between. new.1 ≢ between) (names_left steps)) steps.texts
+-- file is no staging name
+pub record HaveOwnFiles (entries pages : List (List Step)) (actions : ActionTexts) : Type 0 where
+  pub of_pages : All (λ new. IsOneOf pages new.0) actions.texts
+  pub next_to : All (λ new. IsNextTo new.0 new.1) actions.texts
+  pub unused : All (λ new. IsNoneAt entries (components new.1)) actions.texts
+  pub different : AllPairs (λ one other. one.1 ≢ other.1) actions.texts
+  pub no_name : All (λ new. All (λ staging. new.1 ≢ staging) (names_left actions)) actions.texts
 
 -- nothing leaves the same path twice
-abbrev pub LeaveOnce : StepTexts → Type 0
-LeaveOnce steps = AllPairs (λ one other. one.0 ≢ other.0) steps.apart
+abbrev pub LeaveOnce : ActionTexts → Type 0
+LeaveOnce actions = AllPairs (λ one other. one.0 ≢ other.0) actions.staged
 
--- ---- while the steps are made
+-- ---- while the actions are made
 
 -- no new text is written yet, and nothing leaves yet
-pub record DoNothingYet (steps : StepTexts) : Type 0 where
-  pub texts : steps.texts ≡ []
-  pub apart : steps.apart ≡ []
+pub record DoNothingYet (actions : ActionTexts) : Type 0 where
+  pub texts : actions.texts ≡ []
+  pub staged : actions.staged ≡ []
 
 -- the last component of the text is a name with a number below this one
 pub record EndsBelow (next : ℕ) (text : List ℕ) : Type 0 where
@@ -51,17 +51,17 @@ pub record EndsBelow (next : ℕ) (text : List ℕ) : Type 0 where
   pub ends : components text ≡ above ++ name (numbered_name number) ∷ []
 
 -- the new files were drawn from these free names, which are over this index; so they are the pages' own
-pub record AreFilesDrawn (index : PlaceIndex) (pages : List (List Step)) (free : FreeNames) (steps : StepTexts) : Type 0 where
-  pub numbered : All (λ new. EndsBelow free.next new.1) steps.texts
-  pub own : (entries : List (List Step)) → Indexes entries index → HaveOwnFiles entries pages steps
+pub record AreFilesDrawn (index : PlaceIndex) (pages : List (List Step)) (free : FreeNames) (actions : ActionTexts) : Type 0 where
+  pub numbered : All (λ new. EndsBelow free.next new.1) actions.texts
+  pub own : (entries : List (List Step)) → Indexes entries index → HaveOwnFiles entries pages actions
 
 -- nothing leaves yet from where the components lead
-abbrev pub StaysThere : List Step → StepTexts → Type 0
-StaysThere cs steps = All (λ step. ¬ IsNormalTextOf cs step.0) steps.apart
+abbrev pub StaysThere : List Step → ActionTexts → Type 0
+StaysThere cs actions = All (λ step. ¬ IsNormalTextOf cs step.0) actions.staged
 
--- what leaves by the second steps leaves by the first ones too, or leaves this path
-abbrev pub LeavesToo : List ℕ → StepTexts → StepTexts → Type 0
-LeavesToo from steps more = All (λ step. Contains steps.apart step ⊎ (step.0 ≡ from)) more.apart
+-- what leaves by the second actions leaves by the first ones too, or leaves this path
+abbrev pub LeavesToo : List ℕ → ActionTexts → ActionTexts → Type 0
+LeavesToo from actions more = All (λ step. Contains actions.staged step ⊎ (step.0 ≡ from)) more.staged
 
 -- no two moves have the same old path, no two of the pages are at one place, and an entry is at each old path and page
 pub record LeaveFromEntries (entries : List (List Step)) (moves : List Move) (pages : List (List Step)) : Type 0 where

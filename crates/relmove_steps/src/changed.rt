@@ -20,7 +20,8 @@ pub(crate) fn changed_index(
     let mut number = 0usize;
     for (page, new) in pages.iter().zip(news) {
         if new.text.is_some() {
-            index.insert(alloc, page.path, number)?;
+            let path = page.path.copy(alloc)?;
+            index.insert_normal(path, number)?;
             number += 1;
         }
     }

@@ -1,7 +1,7 @@
 //! The order of a run's renames.
 ghost use Rattle.std.specs.Prelude.{◌≡◌, IfOk, IsPermutation, map, string_bytes};
 ghost use mathlib.Core.List.{reverse};
-ghost use Rattle.relmove_steps.specs.Steps.{AboveFirst, BelowFirst, from_name, rename_text, to_name};
+ghost use Rattle.relmove_steps.specs.Actions.{AboveFirst, BelowFirst, from_name, rename_text, to_name};
 
 use relmove_actions::Rename;
 use std::alloc::{AllocError, Global};
@@ -12,9 +12,9 @@ pub(crate) fn below_first(
     mut leaving: Vec<(String, String)>,
 ) -> Result<Vec<Rename>, AllocError>
     ensures order { IfOk result
-        (λ apart. BelowFirst (map (λ step. string_bytes step.from) apart.items)) }
+        (λ staged. BelowFirst (map (λ step. string_bytes step.from) staged.items)) }
     ensures same { IfOk result
-        (λ apart. IsPermutation (map to_name leaving.items) (map rename_text apart.items)) }
+        (λ staged. IsPermutation (map to_name leaving.items) (map rename_text staged.items)) }
 {
     leaving.sort()?;
     leaving_from_last(alloc, leaving)
@@ -25,14 +25,14 @@ fn leaving_from_last(
     alloc: Global,
     mut leaving: Vec<(String, String)>,
 ) -> Result<Vec<Rename>, AllocError>
-    ensures { IfOk result (λ apart. map rename_text apart.items
+    ensures { IfOk result (λ staged. map rename_text staged.items
         ≡ reverse (map to_name leaving.items)) }
 {
-    let mut apart = Vec::with_capacity(alloc, leaving.len())?;
+    let mut staged = Vec::with_capacity(alloc, leaving.len())?;
     while let Some((from, to)) = leaving.pop() {
-        apart.push(Rename { from, to })?;
+        staged.push(Rename { from, to })?;
     }
-    Ok(apart)
+    Ok(staged)
 }
 
 // Returns the renames of what comes: a directory before what is below it.
@@ -41,9 +41,9 @@ pub(crate) fn above_first(
     mut arrivals: Vec<(String, String)>,
 ) -> Result<Vec<Rename>, AllocError>
     ensures order { IfOk result
-        (λ together. AboveFirst (map (λ step. string_bytes step.to) together.items)) }
+        (λ placed. AboveFirst (map (λ step. string_bytes step.to) placed.items)) }
     ensures same { IfOk result
-        (λ together. IsPermutation (map from_name arrivals.items) (map rename_text together.items)) }
+        (λ placed. IsPermutation (map from_name arrivals.items) (map rename_text placed.items)) }
 {
     arrivals.sort()?;
     arrivals.reverse();
@@ -55,12 +55,12 @@ fn arrivals_from_last(
     alloc: Global,
     mut arrivals: Vec<(String, String)>,
 ) -> Result<Vec<Rename>, AllocError>
-    ensures { IfOk result (λ together. map rename_text together.items
+    ensures { IfOk result (λ placed. map rename_text placed.items
         ≡ reverse (map from_name arrivals.items)) }
 {
-    let mut together = Vec::with_capacity(alloc, arrivals.len())?;
+    let mut placed = Vec::with_capacity(alloc, arrivals.len())?;
     while let Some((to, from)) = arrivals.pop() {
-        together.push(Rename { from, to })?;
+        placed.push(Rename { from, to })?;
     }
-    Ok(together)
+    Ok(placed)
 }

@@ -1,72 +1,74 @@
-//! The renames of a run: everything that moves, and each page that changes, to a name in between, and from there to
+//! The renames of a run: everything that moves, and each page that changes, to a staging name, and from there to
 //! its new path.
 ghost use Rattle.std.specs.Prelude.{◌≡◌, ◌<◌, ℕ, ◌++◌, [], ◌∷◌, All, IfErr, IfOk, List, OnOk, length, map, string_bytes, take};
-ghost use Rattle.relative_path.specs.Steps.{Step};
+ghost use Rattle.relative_path.specs.Steps.{Step, components};
 ghost use Rattle.relative_path.specs.RelativePath.{path_components};
 ghost use Rattle.relative_path.specs.Normalizing.{IsNormalTextOf};
-ghost use Rattle.relative_path_moves.specs.Moves.{AreApart, Move, move_at, moves_of};
+ghost use Rattle.relative_path_moves.specs.Moves.{AreApart, Move, move_at, written_moves};
 ghost use Rattle.relative_path_places.specs.PlaceIndex.{Indexes, IsNoneAt, path_at};
 ghost use Rattle.relative_path_places.specs.declared.place_index.PlaceIndex.{PlaceIndex};
 ghost use Rattle.relmove_checks.specs.Moves.{EachMove, move_of};
-ghost use Rattle.relmove_steps.specs.Steps.{AreAmong, DoesMove, LosesNothing, RemovesAt, RemovesMoved, ReplacesPage, ReplacesPages, OnlyTheseLeave, WritesPage, WritesPages, names_left, old_paths, rename_texts, with_carried, with_removed, with_text};
+ghost use Rattle.relmove_steps.specs.Actions.{AreAmong, DoesMove, LosesNothing, RemovesAt, RemovesMoved, ReplacesPage, ReplacesPages, OnlyTheseLeave, WritesPage, WritesPages, names_left, old_paths, rename_texts, with_carried, with_removed, with_text};
 ghost use Rattle.relmove_steps.specs.Pages.{changed_paths};
-ghost use Rattle.relmove_steps.specs.BetweenNames.{AreDrawn, IsStepsRefusal};
+ghost use Rattle.relmove_steps.specs.StagingNames.{AreDrawn, IsActionsRefusal};
 ghost use Rattle.relmove_steps.specs.NewFiles.{AreFilesDrawn, DoNothingYet, LeaveFromEntries, LeaveOnce, LeavesToo, StaysThere};
 ghost use Rattle.relmove_steps.specs.Directories.{LeavesTo, LeaveToNames, moves_to_names};
 
-use crate::between::FreeNames;
+use crate::staging::FreeNames;
 use relative_path::RelativePath;
 use relative_path_links::{MovedSitePage, SitePage};
-use relative_path_places::{NormalPath, PlaceIndex};
+use relative_path_places::{NormalPath, PlaceIndex, WrittenPath};
 use relmove_actions::{NewText, Rename};
 use relmove_checks::Refusal;
 use std::alloc::{AllocError, Global};
 
-// Returns a name in between for each move.
-pub(crate) fn names_between(
+// Returns a staging name for each move.
+pub(crate) fn staging_names(
     alloc: Global,
     names: &mut FreeNames<'_>,
     count: usize,
 ) -> Result<Vec<String>, Refusal>
-    ensures count { IfOk result (λ between. length between.items ≡ count) }
-    ensures free { IfOk result (λ between. (index : PlaceIndex) → AreDrawn index names.old []
-        → AreDrawn index names.new (map string_bytes between.items)) }
-    ensures refused { IfErr result IsStepsRefusal }
+    ensures count { IfOk result (λ staging. length staging.items ≡ count) }
+    ensures free { IfOk result (λ staging. (index : PlaceIndex) → AreDrawn index names.old []
+        → AreDrawn index names.new (map string_bytes staging.items)) }
+    ensures refused { IfErr result IsActionsRefusal }
 {
-    let mut between = Vec::with_capacity(alloc, count)?;
+    let mut staging = Vec::with_capacity(alloc, count)?;
     for _ in 0..count {
-        between.push(names.in_root(alloc)?)?;
+        staging.push(names.in_root(alloc)?)?;
     }
-    Ok(between)
+    Ok(staging)
 }
 
-// Returns the new path of each move, with its name in between.
-pub(crate) fn news_between<'a>(
+// Returns the moves from the new path of each move to its staging name.
+pub(crate) fn moves_to_staging<'a>(
     alloc: Global,
-    moves: &[(RelativePath<'a>, RelativePath<'a>)],
-    between: &'a [String],
-) -> Result<Vec<(RelativePath<'a>, RelativePath<'a>)>, AllocError>
-    requires { length between.now ≡ length moves.now }
-    ensures { IfOk result (λ pairs. moves_of pairs.items
-        ≡ moves_to_names (moves_of moves.now) (map string_bytes between.now)) }
+    moves: &[relative_path_moves::Move<'a>],
+    staging: &'a [String],
+) -> Result<Vec<relative_path_moves::Move<'a>>, AllocError>
+    requires { length staging.now ≡ length moves.now }
+    ensures { IfOk result (λ news. written_moves news.items
+        ≡ moves_to_names (written_moves moves.now) (map string_bytes staging.now)) }
 {
-    let mut pairs = Vec::with_capacity(alloc, moves.len())?;
-    for ((_, new), name) in moves.iter().zip(between) {
-        pairs.push((*new, RelativePath::new(name)))?;
+    let mut news = Vec::with_capacity(alloc, moves.len())?;
+    for (a, name) in moves.iter().zip(staging) {
+        let old = a.new.copy(alloc)?;
+        let new = WrittenPath::of(alloc, RelativePath::new(name))?;
+        news.push(relative_path_moves::Move { old, new })?;
     }
-    Ok(pairs)
+    Ok(news)
 }
 
 // What leaves its place, and what comes to one.
 #[derive(Drop)]
 pub(crate) struct Renames {
-    // What leaves: each path, and its name in between.
+    // What leaves: each path, and its staging name.
     pub(crate) leaving: Vec<(String, String)>,
-    // What comes: each new path, and the name in between.
+    // What comes: each new path, and the staging name.
     pub(crate) arrivals: Vec<(String, String)>,
     // The new texts, each in its own file.
     pub(crate) texts: Vec<NewText>,
-    // The names in between of the old texts.
+    // The staging names of the old texts.
     pub(crate) removed: Vec<String>,
 }
 
@@ -107,7 +109,7 @@ fn add_text(
     Ok(())
 }
 
-// Adds that what is at a path leaves to a name in between, and comes from there to another path.
+// Adds that what is at a path leaves to a staging name, and comes from there to another path.
 fn add_carried(
     alloc: Global,
     renames: &mut Renames,
@@ -125,7 +127,7 @@ fn add_carried(
     Ok(())
 }
 
-// Adds that what is at a path leaves to a name in between, and is removed there.
+// Adds that what is at a path leaves to a staging name, and is removed there.
 fn add_removed(
     alloc: Global,
     renames: &mut Renames,
@@ -142,43 +144,43 @@ fn add_removed(
     Ok(())
 }
 
-// Adds what each move does. Move number `k` goes by name number `k` of `between`.
+// Adds what each move does. Move number `k` goes by name number `k` of `staging`.
 pub(crate) fn add_moves(
     alloc: Global,
     renames: &mut Renames,
-    moves: &[(RelativePath<'_>, RelativePath<'_>)],
-    between: &[String],
+    moves: &[relative_path_moves::Move<'_>],
+    staging: &[String],
     changed: &PlaceIndex,
 ) -> Result<(), AllocError>
     requires kept { LosesNothing (rename_texts renames.old) }
-    requires count { length between.now ≡ length moves.now }
+    requires count { length staging.now ≡ length moves.now }
     ensures kept { OnOk result (LosesNothing (rename_texts renames.new)) }
     ensures moved { OnOk result ((paths : List (List Step)) → Indexes paths changed.now
-        → EachMove (DoesMove paths (rename_texts renames.new)) (moves_of moves.now)) }
+        → EachMove (DoesMove paths (rename_texts renames.new)) (written_moves moves.now)) }
     ensures left { OnOk result (names_left (rename_texts renames.new)
-        ≡ names_left (rename_texts renames.old) ++ map string_bytes between.now) }
+        ≡ names_left (rename_texts renames.old) ++ map string_bytes staging.now) }
     ensures only { OnOk result ((paths : List (List Step))
-        → OnlyTheseLeave (moves_of moves.now) paths (rename_texts renames.old)
-        → OnlyTheseLeave (moves_of moves.now) paths (rename_texts renames.new)) }
+        → OnlyTheseLeave (written_moves moves.now) paths (rename_texts renames.old)
+        → OnlyTheseLeave (written_moves moves.now) paths (rename_texts renames.new)) }
     ensures texts { OnOk result ((rename_texts renames.new).texts ≡ (rename_texts renames.old).texts) }
-    ensures once { OnOk result (AreApart (moves_of moves.now) → DoNothingYet (rename_texts renames.old)
+    ensures once { OnOk result (AreApart (written_moves moves.now) → DoNothingYet (rename_texts renames.old)
         → LeaveOnce (rename_texts renames.new)) }
-    ensures named { OnOk result (LeaveToNames (moves_of moves.now) (map string_bytes between.now)
+    ensures named { OnOk result (LeaveToNames (written_moves moves.now) (map string_bytes staging.now)
         (rename_texts renames.new)) }
 {
-    for (number, (old, new)) in moves.iter().enumerate() {
-        add_move(alloc, renames, *old, *new, &between[number], changed)?;
+    for (number, a) in moves.iter().enumerate() {
+        add_move(alloc, renames, &a.old, &a.new, &staging[number], changed)?;
     }
     Ok(())
 }
 
-// Adds a move. What is at the old path leaves to the name in between. A page that changes is removed there, since its new
+// Adds a move. What is at the old path leaves to the staging name. A page that changes is removed there, since its new
 // text comes to the new path; anything else comes to the new path itself.
 fn add_move(
     alloc: Global,
     renames: &mut Renames,
-    old: RelativePath<'_>,
-    new: RelativePath<'_>,
+    old: &WrittenPath<'_>,
+    new: &WrittenPath<'_>,
     name: &str,
     changed: &PlaceIndex,
 ) -> Result<(), AllocError>
@@ -187,46 +189,31 @@ fn add_move(
     ensures among { OnOk result (AreAmong (rename_texts renames.old) (rename_texts renames.new)) }
     ensures moved { OnOk result ((paths : List (List Step)) → Indexes paths changed.now
         → DoesMove paths (rename_texts renames.new)
-        (move_of (path_components old.entry) (path_components new.entry))) }
+        (move_of (path_components old.now) (path_components new.now))) }
     ensures left { OnOk result (names_left (rename_texts renames.new)
         ≡ names_left (rename_texts renames.old) ++ name.now ∷ []) }
     ensures only { OnOk result ((moves : List Move) (paths : List (List Step)) (k : ℕ) → k < length moves
-        → move_at moves k ≡ move_of (path_components old.entry) (path_components new.entry)
+        → move_at moves k ≡ move_of (path_components old.now) (path_components new.now)
         → OnlyTheseLeave moves paths (rename_texts renames.old)
         → OnlyTheseLeave moves paths (rename_texts renames.new)) }
     ensures texts { OnOk result ((rename_texts renames.new).texts ≡ (rename_texts renames.old).texts) }
-    ensures once { OnOk result (StaysThere (path_components old.entry) (rename_texts renames.old)
+    ensures once { OnOk result (StaysThere (path_components old.now) (rename_texts renames.old)
         → LeaveOnce (rename_texts renames.old) → LeaveOnce (rename_texts renames.new)) }
-    ensures named { OnOk result (LeavesTo (rename_texts renames.new) (path_components old.entry) name.now) }
+    ensures named { OnOk result (LeavesTo (rename_texts renames.new) (path_components old.now) name.now) }
 {
-    let old = NormalPath::of(alloc, old)?;
-    let changes = changed.get(&old).is_some();
-    let from = old.into_relative_path_buf().into_string();
-    if changes {
+    let from = normal_text(alloc, old)?;
+    if changed.get(old.normal()).is_some() {
         return add_removed(alloc, renames, from, name);
     }
-    let to = NormalPath::of(alloc, new)?;
-    add_carried(
-        alloc,
-        renames,
-        from,
-        name,
-        to.into_relative_path_buf().into_string(),
-    )
+    let to = normal_text(alloc, new)?;
+    add_carried(alloc, renames, from, name, to)
 }
 
-// Returns the old paths of the moves, by number.
-pub(crate) fn old_index(
-    alloc: Global,
-    moves: &[(RelativePath<'_>, RelativePath<'_>)],
-) -> Result<PlaceIndex, AllocError>
-    ensures { IfOk result (Indexes (old_paths (moves_of moves.now))) }
+// Returns the normal text of a path.
+fn normal_text(alloc: Global, path: &WrittenPath<'_>) -> Result<String, AllocError>
+    ensures { IfOk result (λ text. IsNormalTextOf (path_components path.now) (string_bytes text)) }
 {
-    let mut index = PlaceIndex::new(alloc);
-    for (number, (old, _)) in moves.iter().enumerate() {
-        index.insert(alloc, *old, number)?;
-    }
-    Ok(index)
+    Ok(String::from_str(alloc, path.normal().as_relative_path().as_str())?)
 }
 
 // Adds the pages that change.
@@ -266,7 +253,7 @@ pub(crate) fn add_pages(
         → LeaveOnce (rename_texts renames.old) → LeaveOnce (rename_texts renames.new)) }
     ensures texts { OnOk result ((rename_texts renames.old).texts ≡ []
         → WritesPages (changed_paths pages.now news.now) (rename_texts renames.new)) }
-    ensures refused { IfErr result IsStepsRefusal }
+    ensures refused { IfErr result IsActionsRefusal }
 {
     for (page, new) in pages.iter().zip(news) {
         if let Some(text) = &new.text {
@@ -292,32 +279,32 @@ fn add_page(
     ensures among { OnOk result (AreAmong (rename_texts renames.old) (rename_texts renames.new)) }
     ensures replaced { OnOk result (ReplacesPage (rename_texts renames.new) page.entry new.now text.now) }
     ensures removed { OnOk result ((moves : List Move) → Indexes (old_paths moves) olds.now
-        → RemovesMoved moves (path_components page.entry.path) (rename_texts renames.old)
-        → RemovesAt (rename_texts renames.new) (path_components page.entry.path)) }
+        → RemovesMoved moves (components page.entry.path.now) (rename_texts renames.old)
+        → RemovesAt (rename_texts renames.new) (components page.entry.path.now)) }
     ensures only { OnOk result ((moves : List Move) (paths : List (List Step)) (k : ℕ) → k < length paths
-        → path_at paths k ≡ path_components page.entry.path
+        → path_at paths k ≡ components page.entry.path.now
         → OnlyTheseLeave moves paths (rename_texts renames.old)
         → OnlyTheseLeave moves paths (rename_texts renames.new)) }
     ensures free { OnOk result ((index : PlaceIndex)
         → AreDrawn index names.old (names_left (rename_texts renames.old))
         → AreDrawn index names.new (names_left (rename_texts renames.new))) }
     ensures files { OnOk result ((index : PlaceIndex) (paths : List (List Step)) (k : ℕ) → k < length paths
-        → path_at paths k ≡ path_components page.entry.path
+        → path_at paths k ≡ components page.entry.path.now
         → AreDrawn index names.old (names_left (rename_texts renames.old))
         → AreFilesDrawn index paths names.old (rename_texts renames.old)
         → AreFilesDrawn index paths names.new (rename_texts renames.new)) }
     ensures once { OnOk result ((index : PlaceIndex) (entries paths : List (List Step)) (moves : List Move) (k : ℕ)
         → Indexes entries index → Indexes (old_paths moves) olds.now → LeaveFromEntries entries moves paths
-        → k < length paths → path_at paths k ≡ path_components page.entry.path
+        → k < length paths → path_at paths k ≡ components page.entry.path.now
         → AreDrawn index names.old (names_left (rename_texts renames.old))
         → AreFilesDrawn index paths names.old (rename_texts renames.old)
         → OnlyTheseLeave moves (take k paths) (rename_texts renames.old)
         → LeaveOnce (rename_texts renames.old) → LeaveOnce (rename_texts renames.new)) }
     ensures texts { OnOk result
-        (WritesPage (path_components page.entry.path) (rename_texts renames.old) (rename_texts renames.new)) }
-    ensures refused { IfErr result IsStepsRefusal }
+        (WritesPage (components page.entry.path.now) (rename_texts renames.old) (rename_texts renames.new)) }
+    ensures refused { IfErr result IsActionsRefusal }
 {
-    let old = NormalPath::of(alloc, page.path)?;
+    let old = page.path.copy(alloc)?;
     let file = names.in_directory(alloc, old.directory())?;
     let normal = old.as_relative_path().as_str();
     add_text(alloc, renames, normal, &file, text)?;
@@ -357,7 +344,7 @@ fn add_old_text(
         → (IsNoneAt (old_paths moves) cs → StaysThere cs (rename_texts renames.old))
         → LeaveOnce (rename_texts renames.old) → LeaveOnce (rename_texts renames.new)) }
     ensures texts { OnOk result ((rename_texts renames.new).texts ≡ (rename_texts renames.old).texts) }
-    ensures refused { IfErr result IsStepsRefusal }
+    ensures refused { IfErr result IsActionsRefusal }
 {
     if olds.get(&page).is_some() {
         return Ok(());

@@ -6,15 +6,20 @@ use std::test::Fail;
 
 mod arguments;
 mod closed;
+mod destinations;
 mod ends;
+mod excluded;
 mod json;
 mod left_alone;
 mod lost;
+mod move_lists;
+mod moved;
 mod moving;
 mod outputs;
 mod progress;
 mod reading;
 mod reread;
+mod verbose;
 
 // Fails in the words of this case where another value was found than is expected. A call of it costs
 // a proof a fourth of what `assert_eq!` with a message does.

@@ -7,7 +7,7 @@ use Rattle.relative_path.specs.Steps.{Step}
 use Rattle.relative_path_moves.specs.declared.move_error.MoveError.{MoveError}
 use Rattle.relative_path_moves.specs.declared.move_error.MoveError.TheVariants.{NoFileName, SameOld, AboveRoot, NoPath, OutOfMemory}
 use Rattle.relative_path_moves.specs.MoveError.{Refuses}
-use Rattle.relative_path_moves.specs.Moves.{Move as FileMove, AreNamed, AreApart, IsFirstNameless, IsFirstPair, ForTarget, ClimbsAbove, BelowTop, IsBeyond}
+use Rattle.relative_path_moves.specs.Moves.{Move as FileMove, AreNamed, AreApart, IsFirstNameless, IsFirstPair, ForFile, ClimbsAbove, BelowTop, IsBeyond}
 use Rattle.relative_path_moves.specs.Reference.{IsAnswered}
 use Rattle.relpath_lib.specs.Command.{Answers, AnswersFields, AnswersCommand, AnswersArguments, Adds, field, command_named, arity_of, words_answer}
 use Rattle.relpath_lib.specs.declared.command.Command.{Command}
@@ -137,9 +137,9 @@ pub IsAnswered-refused : {T : Type 0} (moves : List FileMove) (i : ℕ) (referen
     → e ≢ OutOfMemory
     → ((k : ℕ) → IsErrOf {T = T} (Err e) (NoFileName k) ↔ IsFirstNameless moves k)
     → ((j k : ℕ) → Refuses {T = T} (Err e) (SameOld j k) OutOfMemory (AreNamed moves × IsFirstPair moves j k))
-    → Refuses {T = T} (Err e) AboveRoot OutOfMemory (AreNamed moves × AreApart moves × ForTarget moves i reference ClimbsAbove)
+    → Refuses {T = T} (Err e) AboveRoot OutOfMemory (AreNamed moves × AreApart moves × ForFile moves i reference ClimbsAbove)
     → Refuses {T = T} (Err e) NoPath OutOfMemory
-    (AreNamed moves × AreApart moves × ForTarget moves i reference (BelowTop (IsBeyond moves i)))
+    (AreNamed moves × AreApart moves × ForFile moves i reference (BelowTop (IsBeyond moves i)))
     → IsAnswered moves i reference (Err e)
 IsAnswered-refused moves i reference (NoFileName k) some lacks pair above beyond = (lacks k).0 refl
 IsAnswered-refused moves i reference (SameOld j k) some lacks pair above beyond = (pair j k).only refl

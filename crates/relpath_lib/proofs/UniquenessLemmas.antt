@@ -12,8 +12,8 @@ use Rattle.relative_path.specs.Relating.{IsReachable, IsShortestText, IsWayText}
 use Rattle.relpath_lib.specs.Command.{path_answer, words_answer, GivesPath, TellsWay, field, command_named, arity_of, AnswersRelativeTo, AnswersArguments, AnswersCommand, TellsMoved, moved_answer, one_move}
 use Rattle.relpath_lib.specs.declared.command.Command.{Command}
 use Rattle.relpath_lib.specs.declared.command.Command.TheVariants.{Normalize, Join, Relative, TryRelative, RelativeTo, Move}
-use Rattle.relative_path_moves.specs.Moves.{Move as FileMove, ForTarget, ClimbsAbove, BelowTop, IsBeyond, IsMovedText, AreNamed, AreApart, IsFirstNameless, IsFirstPair}
-use Rattle.relative_path_moves.proofs.ForCallers.{IsTarget-only}
+use Rattle.relative_path_moves.specs.Moves.{Move as FileMove, ForFile, ClimbsAbove, BelowTop, IsBeyond, IsMovedText, AreNamed, AreApart, IsFirstNameless, IsFirstPair}
+use Rattle.relative_path_moves.proofs.ForCallers.{IsPathAfter-only}
 use Rattle.relative_path_moves.specs.Reference.{IsAnswered}
 use Rattle.relative_path_moves.specs.declared.move_error.MoveError.{MoveError}
 use Rattle.relative_path_moves.specs.declared.move_error.MoveError.TheVariants.{NoFileName, SameOld, AboveRoot, NoPath, OutOfMemory}
@@ -70,10 +70,10 @@ TellsWay-IsOfOne f t one other (inr (none, e)) (inl (text, way, f_2)) =
 TellsWay-IsOfOne f t one other (inr (none, e)) (inr (none_2, f_2)) = f_2 ∙ sym e
 
 -- if no two moves have the same old path, two targets of a reference are the same
-ForTarget-both : (moves : List FileMove) (i : ℕ) (reference : List Step) (P Q : List Step → Type 0) → AreApart moves
-    → ForTarget moves i reference P → ForTarget moves i reference Q → (target : List Step) × P target × Q target
-ForTarget-both moves i reference P Q apart (target, is, p) (other, other_is, q) =
-    (target, p, rw (sym (IsTarget-only moves _ target other apart is other_is)) q)
+ForFile-both : (moves : List FileMove) (i : ℕ) (reference : List Step) (P Q : List Step → Type 0) → AreApart moves
+    → ForFile moves i reference P → ForFile moves i reference Q → (target : List Step) × P target × Q target
+ForFile-both moves i reference P Q apart (target, is, p) (other, other_is, q) =
+    (target, p, rw (sym (IsPathAfter-only moves _ target other apart is other_is)) q)
 
 IsFirstNameless-only : (moves : List FileMove) (j k : ℕ) → IsFirstNameless moves j → IsFirstNameless moves k → k ≡ j
 IsFirstNameless-only moves j k first second = elim (cases_order j k) [
@@ -116,30 +116,30 @@ IsAnswered-only moves i reference (Err AboveRoot) (Err (NoFileName m)) h n = abs
 IsAnswered-only moves i reference (Err AboveRoot) (Err (SameOld a b)) h n = absurd (h.1 a b n.1.pair)
 IsAnswered-only moves i reference (Err AboveRoot) (Err AboveRoot) h n = refl
 IsAnswered-only moves i reference (Err AboveRoot) (Err NoPath) (named, apart, h) (named_2, apart_2, n) =
-    let (target, none, below) = ForTarget-both moves i reference ClimbsAbove _ apart h n in absurd (below.0 none)
+    let (target, none, below) = ForFile-both moves i reference ClimbsAbove _ apart h n in absurd (below.0 none)
 IsAnswered-only moves i reference (Err AboveRoot) (Err OutOfMemory) h n = absurd n
 IsAnswered-only moves i reference (Err AboveRoot) (Ok text) (named, apart, h) (named_2, apart_2, n) =
-    let (target, none, below) = ForTarget-both moves i reference ClimbsAbove _ apart h n in absurd (below.0 none)
+    let (target, none, below) = ForFile-both moves i reference ClimbsAbove _ apart h n in absurd (below.0 none)
 IsAnswered-only moves i reference (Err NoPath) (Err (NoFileName m)) h n = absurd (unnamed moves m h.0 n)
 IsAnswered-only moves i reference (Err NoPath) (Err (SameOld a b)) h n = absurd (h.1 a b n.1.pair)
 IsAnswered-only moves i reference (Err NoPath) (Err AboveRoot) (named, apart, h) (named_2, apart_2, n) =
-    let (target, none, below) = ForTarget-both moves i reference ClimbsAbove _ apart n h in absurd (below.0 none)
+    let (target, none, below) = ForFile-both moves i reference ClimbsAbove _ apart n h in absurd (below.0 none)
 IsAnswered-only moves i reference (Err NoPath) (Err NoPath) h n = refl
 IsAnswered-only moves i reference (Err NoPath) (Err OutOfMemory) h n = absurd n
 IsAnswered-only moves i reference (Err NoPath) (Ok text) (named, apart, h) (named_2, apart_2, n) =
-    let (target, beyond, way) = ForTarget-both moves i reference (BelowTop (IsBeyond moves i)) _ apart h n in
+    let (target, beyond, way) = ForFile-both moves i reference (BelowTop (IsBeyond moves i)) _ apart h n in
     absurd (beyond.1 (components text, way.1.shortest.leads))
 IsAnswered-only moves i reference (Err OutOfMemory) other h n = absurd h
 IsAnswered-only moves i reference (Ok text) (Err (NoFileName m)) h n = absurd (unnamed moves m h.0 n)
 IsAnswered-only moves i reference (Ok text) (Err (SameOld a b)) h n = absurd (h.1 a b n.1.pair)
 IsAnswered-only moves i reference (Ok text) (Err AboveRoot) (named, apart, h) (named_2, apart_2, n) =
-    let (target, none, below) = ForTarget-both moves i reference ClimbsAbove _ apart n h in absurd (below.0 none)
+    let (target, none, below) = ForFile-both moves i reference ClimbsAbove _ apart n h in absurd (below.0 none)
 IsAnswered-only moves i reference (Ok text) (Err NoPath) (named, apart, h) (named_2, apart_2, n) =
-    let (target, beyond, way) = ForTarget-both moves i reference (BelowTop (IsBeyond moves i)) _ apart n h in
+    let (target, beyond, way) = ForFile-both moves i reference (BelowTop (IsBeyond moves i)) _ apart n h in
     absurd (beyond.1 (components text, way.1.shortest.leads))
 IsAnswered-only moves i reference (Ok text) (Err OutOfMemory) h n = absurd n
 IsAnswered-only moves i reference (Ok text) (Ok other) (named, apart, h) (named_2, apart_2, n) =
-    let (target, way, way_2) = ForTarget-both moves i reference (BelowTop (IsMovedText moves i text)) _ apart h n in
+    let (target, way, way_2) = ForFile-both moves i reference (BelowTop (IsMovedText moves i text)) _ apart h n in
     ap Ok (IsShortestText-IsOfOne _ target text other way.1 way_2.1)
 
 TellsMoved-IsOfOne : (old new reference : List Step) → IsOfOne (TellsMoved old new reference)

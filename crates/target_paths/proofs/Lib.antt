@@ -1,5 +1,6 @@
 pub mod FirstLemmas
 pub mod ForCallers
+pub mod NamesLemmas
 pub mod NumbersLemmas
 pub mod PiecesLemmas
 pub mod PlainLemmas

@@ -4,7 +4,8 @@ use Rattle.std.proofs.lemmas.List.{take_all, drop-drop}
 use Rattle.target_paths.specs.declared.target.WhyUnknown.{WhyUnknown}
 use Rattle.target_paths.specs.Pieces.{Piece, read_pieces, append_read, bytes_of_pieces, total_size}
 
-pub read_pieces-skip : (first : ℕ → List ℕ → Piece) (k : ℕ) (bs : List ℕ) → read_pieces first k bs ≡ read_pieces first 0 (drop k bs)
+pub read_pieces-skip : (first : ℕ → List ℕ → Piece) (k : ℕ) (bs : List ℕ)
+    → read_pieces first k bs ≡ read_pieces first 0 (drop k bs)
 read_pieces-skip first zero bs = refl
 read_pieces-skip first (suc k) [] = refl
 read_pieces-skip first (suc k) (b ∷ bs) = read_pieces-skip first k bs
@@ -43,7 +44,8 @@ append_read-nil (Ok x) = refl
 
 -- after one more piece is read, the rest of the pieces follow
 pub bytes_of_pieces-next : (old new : List ℕ) (piece : Piece) (whole rest : List Piece) → whole ≡ piece ∷ rest
-    → append_read (Ok old) piece.read ≡ Ok new → append_read (Ok new) (bytes_of_pieces rest) ≡ append_read (Ok old) (bytes_of_pieces whole)
+    → append_read (Ok old) piece.read ≡ Ok new
+    → append_read (Ok new) (bytes_of_pieces rest) ≡ append_read (Ok old) (bytes_of_pieces whole)
 bytes_of_pieces-next old new piece whole rest is read =
     ap (λ r. append_read r (bytes_of_pieces rest)) (sym read)
     ∙ append_read-assoc (Ok old) piece.read (bytes_of_pieces rest)

@@ -19,7 +19,8 @@ ReadsPlain read p = (b : ℕ) (bs : List ℕ) → p b ≡ true → read (b ∷ b
 
 -- what follows the bytes that are read as themselves is read by itself
 pub bytes_of_pieces-plain : (read : List ℕ → List Piece) (p : ℕ → Bool) → ReadsPlain read p → (n : ℕ) (text : List ℕ)
-    → list_all p (take n text) ≡ true → append_read (Ok (take n text)) (bytes_of_pieces (read (drop n text))) ≡ bytes_of_pieces (read text)
+    → list_all p (take n text) ≡ true
+    → append_read (Ok (take n text)) (bytes_of_pieces (read (drop n text))) ≡ bytes_of_pieces (read text)
 bytes_of_pieces-plain read p reads zero text all = append_read-nil (bytes_of_pieces (read text))
 bytes_of_pieces-plain read p reads (suc n) [] all = append_read-nil (bytes_of_pieces (read []))
 bytes_of_pieces-plain read p reads (suc n) (b ∷ bs) all =
@@ -92,7 +93,8 @@ read_pieces-unencoded b bs is =
       of false other = refl
 
 -- the same, as the code has it: the bytes are copied to an empty list, and the rest is what is left
-pub bytes_of_pieces-plain-so_far : (read : List ℕ → List Piece) (p : ℕ → Bool) → ReadsPlain read p → (n : ℕ) (text old new : List ℕ)
+pub bytes_of_pieces-plain-so_far : (read : List ℕ → List Piece) (p : ℕ → Bool) → ReadsPlain read p
+    → (n : ℕ) (text old new : List ℕ)
     → old ≡ [] → new ≡ old ++ take n text → list_all p (take n text) ≡ true
     → append_read (Ok new) (bytes_of_pieces (read (from_byte n text))) ≡ bytes_of_pieces (read text)
 bytes_of_pieces-plain-so_far read p reads n text old new empty is all =

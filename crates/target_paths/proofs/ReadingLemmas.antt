@@ -1,7 +1,8 @@
 -- Targets read up to their tail, and what they mean.
-use Rattle.std.proofs.Common.{◌≡◌, ℕ, ◌<◌, ◌≤◌, Bool, true, false, if◌then◌else◌, nat_lt, List, [], ◌∷◌, length, get_or, Result, Ok, refl, sym, ap, ap₂, ◌∙◌, arith}
+use Rattle.std.proofs.Common.{◌≡◌, ℕ, ◌<◌, ◌≤◌, Bool, true, false, if◌then◌else◌, nat_lt, List, [], ◌∷◌, ◌++◌, length, get_or, Result, Ok, refl, sym, ap, ap₂, ◌∙◌, arith}
 use Rattle.std.proofs.lemmas.Bool.Decides.{nat_tests}
-use Rattle.std.proofs.lemmas.Str.{encode_ascii, length-encode, IsUtf8-from_is_utf8, is_utf8-from_IsUtf8}
+use Rattle.std.proofs.lemmas.List.{length-append}
+use Rattle.std.proofs.lemmas.Str.{encode_ascii, len_utf8_bounds, length-encode, IsUtf8-from_is_utf8, is_utf8-from_IsUtf8}
 use Rattle.std.specs.Char.{encode_utf8, len_utf8}
 use Rattle.std.specs.Str.{is_utf8, IsUtf8}
 use Rattle.target_paths.specs.declared.target.TargetSyntax.{TargetSyntax}
@@ -34,6 +35,14 @@ begins_tail-character c = of (nat_lt c 128) refl where
       let above : 128 ≤ c = grind (arith, nat_tests) in
       no_tail-long (encode_utf8 c) (omega (arith, length-encode c, len_utf8-past_ascii c above))
       ∙ sym (tail-past_ascii c above)
+
+-- two characters begin no tail
+pub begins_tail-pair : (c d : ℕ) → begins_tail (Ok (encode_utf8 c ++ encode_utf8 d)) ≡ false
+begins_tail-pair c d =
+    let some : 1 ≤ len_utf8 c = (len_utf8_bounds c).0 in
+    let more : 1 ≤ len_utf8 d = (len_utf8_bounds d).0 in
+    let count = length-append (encode_utf8 c) (encode_utf8 d) in
+    no_tail-long (encode_utf8 c ++ encode_utf8 d) (omega (arith, length-encode c, length-encode d, some, more, count))
 
 -- ---- the path's pieces
 

@@ -316,7 +316,8 @@ decoding bs = if list_any is_nul bs then Err EncodedNul else Ok bs
 decoding-byte : (b : ℕ) (bs : List ℕ) → is_nul b ≡ false → append_read (Ok (b ∷ [])) (decoding bs) ≡ decoding (b ∷ bs)
 decoding-byte b bs some =
     of (list_any is_nul bs) ∙ ap (λ t. if t || list_any is_nul bs then Err EncodedNul else Ok (b ∷ bs)) (sym some) where
-      of : (t : Bool) → append_read (Ok (b ∷ [])) (if t then Err EncodedNul else Ok bs) ≡ (if t then Err EncodedNul else Ok (b ∷ bs))
+      of : (t : Bool)
+          → append_read (Ok (b ∷ [])) (if t then Err EncodedNul else Ok bs) ≡ (if t then Err EncodedNul else Ok (b ∷ bs))
       of true = refl
       of false = refl
 
@@ -361,7 +362,8 @@ decoding-kept b rest bs other some is =
     ∙ decoding-byte b bs some
 
 -- what a byte other than a slash is decoded to
-decoded_byte-append_read : (b : ℕ) (bs : List ℕ) → is_slash b ≡ false → append_read (decoded_byte b) (decoding bs) ≡ decoding (b ∷ bs)
+decoded_byte-append_read : (b : ℕ) (bs : List ℕ) → is_slash b ≡ false
+    → append_read (decoded_byte b) (decoding bs) ≡ decoding (b ∷ bs)
 decoded_byte-append_read b bs other =
     by_escape
     (λ t. is_nul b ≡ t → append_read
@@ -535,7 +537,8 @@ kept-no_mark position b bs none keeps =
     let first : spelling_from position (b ∷ bs) ≡ b ∷ spelling_from (next_position position b) bs =
     ap (λ t. written_byte t b ++ spelling_from (next_position position b) bs) keeps in
     let same : (last_byte (spelling_from position (b ∷ bs)) == 46) ≡ dot =
-    last_byte-dot (spelling_from position (b ∷ bs)) ∙ ends_in_dot-spelling_from position (b ∷ bs) ∙ sym (last_byte-dot (b ∷ bs)) in
+    last_byte-dot (spelling_from position (b ∷ bs)) ∙ ends_in_dot-spelling_from position (b ∷ bs)
+    ∙ sym (last_byte-dot (b ∷ bs)) in
     ap (λ t. t || is_digit_byte (get_or (spelling_from position (b ∷ bs)) 0 0) && (last_byte (spelling_from position (b ∷ bs)) == 46))
     (spelling_from-no_line position (b ∷ bs) (or_none line (is_digit_byte b && dot) none))
     ∙ ap (λ text. is_digit_byte (get_or text 0 0) && (last_byte (spelling_from position (b ∷ bs)) == 46)) first

@@ -46,7 +46,8 @@ past_ascii-kept FirstSegment b past = grind (arith, nat_tests)
 past_ascii-kept AfterSlash b past = grind (arith, nat_tests)
 
 -- no byte past ASCII is escaped
-next_position-past : (position : PathPosition) (b c : ℕ) → 128 ≤ b → 128 ≤ c → next_position position b ≡ next_position position c
+next_position-past : (position : PathPosition) (b c : ℕ) → 128 ≤ b → 128 ≤ c
+    → next_position position b ≡ next_position position c
 next_position-past Start b c past beyond = grind (arith, nat_tests)
 next_position-past Mark b c past beyond = grind (arith, nat_tests)
 next_position-past FirstSegment b c past beyond = grind (arith, nat_tests)
@@ -60,7 +61,8 @@ next_position-twice FirstSegment b c past beyond = grind (arith, nat_tests)
 next_position-twice AfterSlash b c past beyond = refl
 
 -- bytes past ASCII are written as they are
-spelling_from-past : (position : PathPosition) (bs : List ℕ) (rest : List ℕ) (c : ℕ) → 128 ≤ c → 0 < length bs → ArePastAscii bs
+spelling_from-past : (position : PathPosition) (bs : List ℕ) (rest : List ℕ) (c : ℕ) → 128 ≤ c → 0 < length bs
+    → ArePastAscii bs
     → spelling_from position (bs ++ rest) ≡ bs ++ spelling_from (next_position position c) rest
 spelling_from-past position [] rest c past some high = absurd (omega (arith, some))
 spelling_from-past position (b ∷ []) rest c past some (first, others) =
@@ -90,7 +92,8 @@ spelling_from-character position c rest = of (nat_lt c 128) refl where
       (sym (past_ascii-kept position c past))
 
 -- what is written for a path with one more character
-pub spelling_from-next : (position : PathPosition) (cs : List ℕ) (n c more : ℕ) (old new : List ℕ) → n < length cs → c ≡ get_or cs n c
+pub spelling_from-next : (position : PathPosition) (cs : List ℕ) (n c more : ℕ) (old new : List ℕ) → n < length cs
+    → c ≡ get_or cs n c
     → more ≡ n + 1 → new ≡ old ++ written_character position c
     → new ++ spelling_from (next_position position c) (encode_utf8_all (drop more cs))
     ≡ old ++ spelling_from position (encode_utf8_all (drop n cs))

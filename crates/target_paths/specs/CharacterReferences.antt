@@ -1,7 +1,6 @@
 -- Character references: CommonMark 0.31.2, section 2.5, "Entity and numeric character references".
-use Rattle.std.specs.Prelude.{ℕ, ◌+◌, Bool, ◌==◌, ◌&&◌, ◌||◌, not, nat_lt, List, length, drop, codes, Option, Some, None, if◌then◌else◌, slice_index}
+use Rattle.std.specs.Prelude.{ℕ, ◌+◌, Bool, ◌==◌, ◌&&◌, ◌||◌, not, nat_lt, List, length, drop, Option, Some, None, if◌then◌else◌, slice_index}
 use Rattle.std.specs.List.{before_first, list_all}
-use Rattle.std.specs.Str.{bytes_eq}
 use Rattle.std.specs.Str.Parse.{digits_value}
 use Rattle.std.specs.Char.{is_ascii_alphanumeric, is_ascii_alphabetic, is_digit}
 use lib.Utf8.{scalar}
@@ -41,17 +40,6 @@ body_number body =
     if not (slice_index body 0 == 35) then None
     else if is_x (slice_index body 1) then number_of 16 6 (drop 2 body)
     else number_of 10 7 (drop 1 body)
-
--- the character that one of six names stands for
-abbrev pub character_of_name : List ℕ → Option ℕ
-character_of_name body =
-    if bytes_eq body (codes "amp") then Some 38
-    else if bytes_eq body (codes "lt") then Some 60
-    else if bytes_eq body (codes "gt") then Some 62
-    else if bytes_eq body (codes "quot") then Some 34
-    else if bytes_eq body (codes "apos") then Some 39
-    else if bytes_eq body (codes "nbsp") then Some 160
-    else None
 
 -- the body has the form of a name: a letter, and then letters and digits
 abbrev pub is_name : List ℕ → Bool

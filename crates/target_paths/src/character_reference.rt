@@ -1,4 +1,4 @@
-//! Character references: `&amp;`, `&#38;`, `&#x26;`.
+//! Character references by number, `&#38;` and `&#x26;`, and what may be others.
 ghost use Rattle.std.specs.Prelude.{◌≡◌, ◌≤◌, ◌<◌, ◌+◌, length, min, slice_index, MatchOption, true, false};
 ghost use Rattle.std.specs.Char.{is_ascii_alphabetic, is_ascii_alphanumeric};
 ghost use Rattle.std.specs.List.{list_all, position};
@@ -8,7 +8,6 @@ ghost use Rattle.target_paths.specs.CharacterReferences.{
   body_number,
   body_of,
   character_of,
-  character_of_name,
   ends_body,
   is_closed,
   is_name,
@@ -60,27 +59,6 @@ fn are_alphanumeric(text: &[u8]) -> bool
     ensures { result ≡ list_all is_ascii_alphanumeric text.now }
 {
     text.iter().all(|byte| byte.is_ascii_alphanumeric())
-}
-
-// Returns the character that a name stands for.
-pub(crate) fn character_of_name(body: &[u8]) -> Option<char>
-    ensures { result ≡ character_of_name body.now }
-{
-    if body == b"amp".as_slice() {
-        Some('&')
-    } else if body == b"lt".as_slice() {
-        Some('<')
-    } else if body == b"gt".as_slice() {
-        Some('>')
-    } else if body == b"quot".as_slice() {
-        Some('"')
-    } else if body == b"apos".as_slice() {
-        Some('\'')
-    } else if body == b"nbsp".as_slice() {
-        Some('\u{A0}')
-    } else {
-        None
-    }
 }
 
 // Returns the number in a body, or a number past all characters if the body's number is greater.

@@ -1,5 +1,6 @@
 //! Pieces of a text, and what they are read as.
 ghost use Rattle.std.specs.Prelude.{◌≡◌, ◌++◌, Ok, IfOk, IfErr};
+ghost use Rattle.std.specs.Char.{encode_utf8};
 ghost use Rattle.target_paths.specs.Pieces.{append_read};
 ghost use Rattle.target_paths.specs.Shown.{read_bytes, SaysWhy};
 
@@ -18,6 +19,8 @@ pub(crate) struct Piece {
 pub(crate) enum Read {
     Byte(u8),
     Character(char),
+    // Two characters.
+    Pair(char, char),
     Nothing,
     Unknown(WhyUnknown),
 }
@@ -46,13 +49,27 @@ pub(crate) fn push_read(bytes: &mut Vec<u8>, read: Read) -> Result<(), ReadError
 {
     match read {
         Read::Byte(byte) => push_bytes(bytes, &[byte]),
-        Read::Character(character) => {
-            let mut buffer = [0; 4];
-            push_bytes(bytes, character.encode_utf8(&mut buffer).as_bytes())
-        }
+        Read::Character(character) => push_character(bytes, character),
+        Read::Pair(first, second) => push_pair(bytes, first, second),
         Read::Nothing => Ok(()),
         Read::Unknown(why) => Err(ReadError::Unknown(why)),
     }
+}
+
+fn push_character(bytes: &mut Vec<u8>, character: char) -> Result<(), ReadError>
+    ensures ok { IfOk result (λ _. bytes.new.items ≡ bytes.old.items ++ encode_utf8 character) }
+    ensures err { IfErr result (λ error. error ≡ ReadError.OutOfMemory) }
+{
+    let mut buffer = [0; 4];
+    push_bytes(bytes, character.encode_utf8(&mut buffer).as_bytes())
+}
+
+fn push_pair(bytes: &mut Vec<u8>, first: char, second: char) -> Result<(), ReadError>
+    ensures ok { IfOk result (λ _. bytes.new.items ≡ bytes.old.items ++ (encode_utf8 first ++ encode_utf8 second)) }
+    ensures err { IfErr result (λ error. error ≡ ReadError.OutOfMemory) }
+{
+    push_character(bytes, first)?;
+    push_character(bytes, second)
 }
 
 fn push_bytes(bytes: &mut Vec<u8>, more: &[u8]) -> Result<(), ReadError>

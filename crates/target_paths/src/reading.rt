@@ -45,7 +45,8 @@ struct PathPart {
 /// |---|---|---|
 /// | `\` before ASCII punctuation | the punctuation | a slash, as every backslash |
 /// | `&#38;` and `&#x26;`, with 1 to 7 decimal or 1 to 6 hexadecimal digits | the character | the character, but unknown for 128 to 159 |
-/// | `&amp;` `&lt;` `&gt;` `&quot;` `&apos;` `&nbsp;` | the character | the character |
+/// | `&eacute;` and HTML's other names that end in a semicolon | the character, or the two | the character, or the two |
+/// | `&eacute` and HTML's other names without a semicolon | itself | the character, but itself before `=`, a letter or a digit |
 /// | another `&` | unknown in `&name;`, otherwise itself | unknown before a letter or `#`, otherwise itself |
 /// | NUL | U+FFFD | U+FFFD |
 /// | tabs and line ends | themselves | nothing |
@@ -55,7 +56,8 @@ struct PathPart {
 /// the path has `%2F` or `%00`, or if the decoded path isn't UTF-8. [`WhyUnknown`] has the reasons.
 ///
 /// Allocates once, or twice for a path: as many bytes as the target has, and two more for each NUL; and then as many
-/// bytes as were read before the tail. Time is linear.
+/// bytes as were read before the tail. `&nGt;` and `&nLt;`, which are longer as characters, may need more. Time is
+/// linear.
 ///
 /// ```
 /// let reading = path_of_target(alloc, TargetSyntax::Markdown, "my%20a\\_b.md?q#top")?;
@@ -202,6 +204,7 @@ fn begins_tail(read: Read) -> bool
     match read {
         Read::Byte(byte) => byte == b'#' || byte == b'?',
         Read::Character(character) => character == '#' || character == '?',
+        Read::Pair(_, _) => false,
         Read::Nothing => false,
         Read::Unknown(_) => false,
     }

@@ -1,25 +1,30 @@
 //! The pieces of a target as a page has it.
-ghost use Rattle.std.specs.Prelude.{◌≡◌, ◌≤◌, ◌<◌, ◌+◌, length, Ok, IfSome, if◌then◌else◌};
+ghost use Rattle.std.specs.Prelude.{◌≡◌, ◌≤◌, ◌<◌, ◌+◌, length, true, Ok, IfSome, if◌then◌else◌};
 ghost use Rattle.std.specs.Option.{option_map};
-ghost use Rattle.target_paths.specs.CharacterReferences.{body_of, character_of};
-ghost use Rattle.target_paths.specs.Shown.{piece_of, read_bytes};
+ghost use Rattle.character_names.specs.Names.{longest_name};
+ghost use Rattle.target_paths.specs.CharacterReferences.{body_number, character_of};
+ghost use Rattle.target_paths.specs.Shown.{is_plain_pair, piece_of, read_bytes};
 ghost use Rattle.target_paths.specs.Source.{
-  body_character,
   byte_read,
   character_read,
   character_reference_piece,
+  character_unless_replaced,
+  characters_read,
+  ends_reference,
+  goes_on,
   is_escape,
   is_replaced,
   may_begin_character_reference,
+  named_piece,
+  numeric_piece,
   read_character_reference,
   source_piece,
 };
 
-use crate::character_reference::{
-    begins_with_letter, body, character_of, character_of_name, is_name, number,
-};
+use crate::character_reference::{begins_with_letter, body, character_of, is_name, number};
 use crate::piece::{Piece, Read};
 use crate::target::{TargetSyntax, WhyUnknown};
+use character_names::{Characters, longest_name};
 
 // Returns the piece that a byte and the text after it begin with.
 pub(crate) fn source_piece(syntax: TargetSyntax, byte: u8, text: &[u8]) -> Piece
@@ -87,10 +92,7 @@ fn character_reference_piece(syntax: TargetSyntax, text: &[u8]) -> Piece
     ensures within { result.size ≤ length text.now + 1 }
 {
     match read_character_reference(syntax, text) {
-        Some((character, length)) => Piece {
-            size: length + 2,
-            read: character_read(syntax, character),
-        },
+        Some(piece) => piece,
         None if may_begin_character_reference(syntax, text) => Piece {
             size: 1,
             read: Read::Unknown(WhyUnknown::CharacterReference),
@@ -102,23 +104,81 @@ fn character_reference_piece(syntax: TargetSyntax, text: &[u8]) -> Piece
     }
 }
 
-// Reads a character reference: returns its character, by the text after its `&`, and the length of its body.
-fn read_character_reference(syntax: TargetSyntax, text: &[u8]) -> Option<(char, usize)>
-    ensures character { option_map (λ found. found.0) result ≡ read_character_reference syntax text.now }
-    ensures length { IfSome result (λ found. (found.1 ≡ length (body_of text.now)) × (found.1 < length text.now)) }
+// Returns the piece of a character reference that is known, by the text after its `&`.
+fn read_character_reference(syntax: TargetSyntax, text: &[u8]) -> Option<Piece>
+    ensures piece { option_map piece_of result ≡ read_character_reference syntax text.now }
+    ensures size { IfSome result (λ piece. (0 < piece.size) × (piece.size ≤ length text.now + 1)) }
 {
-    let body = body(text)?;
-    let character = body_character(syntax, body)?;
-    Some((character, body.len()))
+    match text {
+        [b'#', ..] => numeric_piece(syntax, text),
+        _ => named_piece(syntax, text),
+    }
 }
 
-// Returns the character that the body of a character reference stands for.
-fn body_character(syntax: TargetSyntax, body: &[u8]) -> Option<char>
-    ensures { result ≡ body_character syntax body.now }
+// Returns the piece of a number, by the text after its `&`.
+fn numeric_piece(syntax: TargetSyntax, text: &[u8]) -> Option<Piece>
+    ensures piece { option_map piece_of result ≡ numeric_piece syntax text.now }
+    ensures size { IfSome result (λ piece. (0 < piece.size) × (piece.size ≤ length text.now + 1)) }
 {
-    match body {
-        [b'#', ..] => character_unless_replaced(syntax, number(body)?),
-        _ => character_of_name(body),
+    let body = body(text)?;
+    let character = numeric_character(syntax, body)?;
+    Some(Piece {
+        size: body.len() + 2,
+        read: character_read(syntax, character),
+    })
+}
+
+// Returns the character that the number in a body stands for.
+fn numeric_character(syntax: TargetSyntax, body: &[u8]) -> Option<char>
+    ensures { result ≡ character_unless_replaced syntax (body_number body.now) }
+{
+    character_unless_replaced(syntax, number(body)?)
+}
+
+// Returns the piece of the longest name that a text after an `&` begins with.
+fn named_piece(syntax: TargetSyntax, text: &[u8]) -> Option<Piece>
+    ensures piece { option_map piece_of result ≡ named_piece syntax text.now (longest_name text.now) }
+    ensures size { IfSome result (λ piece. (0 < piece.size) × (piece.size ≤ length text.now + 1)) }
+{
+    let (len, characters) = longest_name(text)?;
+    if ends_reference(syntax, text[len - 1], &text[len..]) {
+        Some(Piece {
+            size: len + 1,
+            read: characters_read(syntax, characters),
+        })
+    } else {
+        None
+    }
+}
+
+// Returns whether a name with this last byte is a character reference before a text.
+fn ends_reference(syntax: TargetSyntax, last: u8, text: &[u8]) -> bool
+    ensures { result ≡ ends_reference syntax last text.now }
+{
+    match syntax {
+        TargetSyntax::Markdown => last == b';',
+        TargetSyntax::Attribute => last == b';' || !goes_on(text),
+    }
+}
+
+// Returns whether a name without a semicolon is no character reference before a text.
+fn goes_on(text: &[u8]) -> bool
+    ensures { result ≡ goes_on text.now }
+{
+    match text {
+        [next, ..] => next.is_ascii_alphanumeric() || *next == b'=',
+        [] => false,
+    }
+}
+
+// Returns what the characters of a name are read as.
+fn characters_read(syntax: TargetSyntax, characters: Characters) -> Read
+    requires { is_plain_pair characters ≡ true }
+    ensures { read_bytes result ≡ Ok (characters_read syntax characters) }
+{
+    match characters {
+        Characters::One(character) => character_read(syntax, character),
+        Characters::Two(first, second) => Read::Pair(first, second),
     }
 }
 
@@ -149,6 +209,8 @@ fn may_begin_character_reference(syntax: TargetSyntax, text: &[u8]) -> bool
 {
     match syntax {
         TargetSyntax::Markdown => body(text).is_some_and(is_name),
-        TargetSyntax::Attribute => begins_with_letter(text) || text.starts_with(b"#"),
+        TargetSyntax::Attribute => {
+            text.starts_with(b"#") || begins_with_letter(text) && longest_name(text).is_none()
+        }
     }
 }

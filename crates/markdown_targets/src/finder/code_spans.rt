@@ -3,7 +3,7 @@ ghost use Rattle.std.specs.Prelude.{◌≤◌, ◌<◌, length, IfSome};
 ghost use Rattle.markdown_targets.specs.Offsets.{Skips, Advances};
 
 use crate::finder::bytes::{byte_at, run_end};
-use crate::span::Span;
+use crate::span::PageSpan;
 use std::alloc::{AllocError, Global};
 
 // How long a run of backticks may be to open a code span.
@@ -56,7 +56,7 @@ impl BacktickRuns {
 }
 
 // Returns the first run of backticks from an offset on.
-fn next_run(text: &[u8], from: usize) -> Option<Span>
+fn next_run(text: &[u8], from: usize) -> Option<PageSpan>
     requires { from ≤ length text.now }
     ensures { IfSome result (λ run. (from ≤ run.start) × Advances text.now run.start run.end) }
 {
@@ -65,7 +65,7 @@ fn next_run(text: &[u8], from: usize) -> Option<Span>
     if start == text.len() || end == start {
         return None;
     }
-    Some(Span { start, end })
+    Some(PageSpan { start, end })
 }
 
 // Returns the end of the first run of a width from an offset on, or the offset where there is none.

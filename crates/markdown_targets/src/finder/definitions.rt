@@ -5,14 +5,14 @@ ghost use Rattle.markdown_targets.specs.Offsets.{Skips, Advances};
 use crate::finder::bytes::{is_blank, is_line_end, run_end, skip_byte, skip_spaces};
 use crate::finder::links::{read_destination, title_end};
 use crate::finder::names::{Label, Names};
-use crate::span::Span;
+use crate::span::PageSpan;
 use std::alloc::AllocError;
 
 // A definition, and the offset of the line after it.
 #[derive(Clone, Copy)]
 pub(crate) struct Definition<'a> {
     pub(crate) name: &'a [u8],
-    pub(crate) target: Span,
+    pub(crate) target: PageSpan,
     pub(crate) after: usize,
 }
 

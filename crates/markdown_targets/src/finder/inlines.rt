@@ -13,7 +13,7 @@ use crate::finder::links::inline_link;
 use crate::finder::names::{Label, Names};
 use crate::finder::tags::StartTag;
 use crate::finder::text_blocks::{TextBlocks, TextKind};
-use crate::span::Span;
+use crate::span::PageSpan;
 use crate::target::{LinkTarget, LinkTargets, PassedOver, TargetKind, WhyPassedOver};
 use std::alloc::{AllocError, Global};
 
@@ -292,7 +292,12 @@ impl InlineReader {
     }
 
     // Adds a target, or passes it over if a template writes it.
-    fn add_target(&mut self, text: &[u8], kind: TargetKind, span: Span) -> Result<(), AllocError> {
+    fn add_target(
+        &mut self,
+        text: &[u8],
+        kind: TargetKind,
+        span: PageSpan,
+    ) -> Result<(), AllocError> {
         if text.get(span.start..span.end).is_some_and(is_template) {
             return self.pass_over(WhyPassedOver::Template, span);
         }
@@ -301,7 +306,7 @@ impl InlineReader {
     }
 
     // Adds what is passed over.
-    fn pass_over(&mut self, why: WhyPassedOver, span: Span) -> Result<(), AllocError> {
+    fn pass_over(&mut self, why: WhyPassedOver, span: PageSpan) -> Result<(), AllocError> {
         self.found.passed_over.push(PassedOver { why, span })?;
         Ok(())
     }

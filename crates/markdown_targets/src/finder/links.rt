@@ -7,7 +7,7 @@ use crate::finder::bytes::{
     destination_mark_at, find_unescaped, is_line_end, is_space_or_control, skip_byte,
     skip_escape_or_byte, skip_spaces,
 };
-use crate::span::Span;
+use crate::span::PageSpan;
 
 // How deep the parentheses of a destination may be.
 const DEEPEST: usize = 32;
@@ -15,14 +15,14 @@ const DEEPEST: usize = 32;
 // A destination, and the offset after it and its angles.
 #[derive(Clone, Copy)]
 pub(crate) struct Destination {
-    pub(crate) span: Span,
+    pub(crate) span: PageSpan,
     pub(crate) after: usize,
 }
 
 // What is in the parentheses of a link, and the offset after them.
 #[derive(Clone, Copy)]
 pub(crate) struct InlineLink {
-    pub(crate) target: Option<Span>,
+    pub(crate) target: Option<PageSpan>,
     pub(crate) after: usize,
 }
 
@@ -55,13 +55,13 @@ pub(crate) fn read_destination(text: &[u8], start: usize) -> Option<Destination>
         })?;
         let after = skip_byte(text, end, b'>')?;
         Some(Destination {
-            span: Span { start, end },
+            span: PageSpan { start, end },
             after,
         })
     } else {
         let end = bare_destination_end(text, start)?;
         Some(Destination {
-            span: Span { start, end },
+            span: PageSpan { start, end },
             after: end,
         })
     }

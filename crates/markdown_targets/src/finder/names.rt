@@ -6,7 +6,7 @@ ghost use Rattle.markdown_targets.specs.Labels.{normalized_label};
 ghost use Rattle.markdown_targets.specs.Offsets.{Advances};
 
 use crate::finder::bytes::{find_unescaped, is_space, skip_byte};
-use crate::span::Span;
+use crate::span::PageSpan;
 use std::alloc::{AllocError, Global};
 use std::collections::BTreeSet;
 
@@ -16,7 +16,7 @@ const LONGEST_LABEL: usize = 999;
 // A label, and the offset after its brackets.
 #[derive(Clone, Copy)]
 pub(crate) struct Label<'a> {
-    pub(crate) span: Span,
+    pub(crate) span: PageSpan,
     pub(crate) name: &'a [u8],
     pub(crate) after: usize,
 }
@@ -34,7 +34,7 @@ impl<'a> Label<'a> {
             return None;
         }
         Some(Label {
-            span: Span { start, end },
+            span: PageSpan { start, end },
             name,
             after,
         })

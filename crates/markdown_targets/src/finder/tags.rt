@@ -5,7 +5,7 @@ ghost use Rattle.markdown_targets.specs.Offsets.{Skips, Advances};
 ghost use Rattle.markdown_targets.specs.Tags.{begins_with_name, ends_name, closes};
 
 use crate::finder::bytes::{is_space, run_end, skip_byte, skip_spaces};
-use crate::span::Span;
+use crate::span::PageSpan;
 use crate::target::Quote;
 
 // The names of elements whose content is text without tags.
@@ -19,7 +19,7 @@ pub(crate) struct Value {
     // What ends it.
     pub(crate) quote: Quote,
     // The span of the value, without its quotes.
-    pub(crate) span: Span,
+    pub(crate) span: PageSpan,
     // The offset after it and its quotes.
     after: usize,
 }
@@ -163,7 +163,7 @@ fn read_value(text: &[u8], name_end: usize) -> Option<Value>
     let start = start + 1;
     let end = run_end(text, start, |other| other != byte);
     let after = skip_byte(text, end, byte)?;
-    let span = Span { start, end };
+    let span = PageSpan { start, end };
     Some(Value { quote, span, after })
 }
 
@@ -179,7 +179,7 @@ fn read_unquoted_value(text: &[u8], start: usize) -> Option<Value>
     // CommonMark takes a form feed for a part of the value, and a browser takes it for a space.
     let start = run_end(text, start, |byte| byte == FORM_FEED);
     let end = run_end(text, start, |byte| is_of_value(byte) && byte != FORM_FEED);
-    let span = Span { start, end };
+    let span = PageSpan { start, end };
     Some(Value {
         quote: Quote::Unquoted,
         span,

@@ -5,6 +5,7 @@ use relative_path_links::{
     Change, Edit, Markdown, MovedSitePage, SitePage, Unchanged, rewrite_site, targets,
 };
 use relative_path_moves::TreeMoves;
+use relative_path_places::NormalPath;
 use std::alloc::Global;
 use std::test::Fail;
 use target_paths::{TargetReading, TargetSyntax, path_of_target};
@@ -191,10 +192,8 @@ fn stays(case: &str, page: &MovedSitePage) -> Result<(), Fail> {
 fn after_move(alloc: Global, new: &str, text: &str) -> Result<Vec<MovedSitePage>, Fail> {
     let moves = moves(alloc, &[("x", new)])?;
     let moves = TreeMoves::new(alloc, &moves)?;
-    let page = SitePage {
-        path: RelativePath::new("index.md"),
-        text,
-    };
+    let path = NormalPath::of(alloc, RelativePath::new("index.md"))?;
+    let page = SitePage { path: &path, text };
     Ok(rewrite_site(alloc, &[page], &moves, &Markdown)?)
 }
 

@@ -14,6 +14,7 @@ use relative_path_links::{
     targets,
 };
 use relative_path_moves::TreeMoves;
+use relative_path_places::NormalPath;
 use std::alloc::{AllocError, Global};
 use std::cell::Cell;
 use std::test::Fail;
@@ -465,10 +466,8 @@ fn become_in(
     (case, otherwise, text, expected, words): Case,
 ) -> Result<(), Fail> {
     let finder = Counting::new(otherwise);
-    let page = SitePage {
-        path: RelativePath::new("index.md"),
-        text,
-    };
+    let path = NormalPath::of(alloc, RelativePath::new("index.md"))?;
+    let page = SitePage { path: &path, text };
     let pages = rewrite_site(alloc, &vec![in alloc; page; count]?, moves, &finder)?;
     same(case, pages.len(), count)?;
     are_told(

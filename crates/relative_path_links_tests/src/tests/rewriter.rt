@@ -3,6 +3,7 @@ use super::{moves, same};
 use relative_path::RelativePath;
 use relative_path_links::{Change, Edit, Unchanged, edited, rewrite_links, targets};
 use relative_path_moves::{PageMove, TreeMoves};
+use relative_path_places::NormalPath;
 use std::alloc::{AllocError, Global};
 use std::test::Fail;
 use target_paths::WhyUnknown;
@@ -98,7 +99,8 @@ fn after_in(
     from: &str,
     page: &str,
 ) -> Result<EditedPage, AllocError> {
-    let moved = tree.moved_page(alloc, RelativePath::new(from))?;
+    let from = NormalPath::of(alloc, RelativePath::new(from))?;
+    let moved = tree.moved_page(alloc, &from)?;
     after_move(alloc, tree, &moved, page)
 }
 
@@ -249,7 +251,8 @@ fn has_file(case: &str, edits: &[Edit], file: Option<&str>) -> Result<(), Fail> 
 
 // Fails where the target of a page leads to another file than its row says.
 fn leads_to(alloc: Global, tree: &TreeMoves<'_>, (path, page, file): WithFile) -> Result<(), Fail> {
-    let moved = tree.moved_page(alloc, RelativePath::new(path))?;
+    let path = NormalPath::of(alloc, RelativePath::new(path))?;
+    let moved = tree.moved_page(alloc, &path)?;
     let found = targets(alloc, page)?;
     let edits = rewrite_links(alloc, page, &found, tree, &moved)?;
     has_file(page, &edits, file)

@@ -92,7 +92,8 @@ fn link_becomes(
     tree: &TreeMoves<'_>,
     (page, reference, expected): Link,
 ) -> Result<(), Fail> {
-    let page = tree.moved_page(alloc, RelativePath::new(page))?;
+    let path = NormalPath::of(alloc, RelativePath::new(page))?;
+    let page = tree.moved_page(alloc, &path)?;
     becomes_in_page(alloc, tree, &page, reference, expected)
 }
 
@@ -268,7 +269,8 @@ fn leads_to(
 // The same of each of these rows.
 fn all_lead(alloc: Global, moves: &TreeMoves<'_>, rows: &[Found]) -> Result<(), Fail> {
     for row in rows {
-        let page = moves.moved_page(alloc, RelativePath::new(row.0))?;
+        let path = NormalPath::of(alloc, RelativePath::new(row.0))?;
+        let page = moves.moved_page(alloc, &path)?;
         leads_to(alloc, moves, &page, *row)?;
     }
     Ok(())

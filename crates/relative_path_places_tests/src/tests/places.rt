@@ -46,7 +46,7 @@ const NORMAL: [(&str, &str, &str, &str, bool); 6] = [
 fn looks(normal: &NormalPath, text: &str, above: &str, has: bool) -> Result<(), Fail> {
     let found = (
         normal.as_relative_path().as_str(),
-        normal.directory().as_str(),
+        normal.directory().as_relative_path().as_str(),
     );
     same(text, (found, normal.has_place()), ((text, above), has))
 }

@@ -52,7 +52,7 @@ fn text_file(alloc: Global, path: &str, digest: TextDigest) -> Result<TextFile, 
 }
 
 // What is removed at the end of the run.
-fn cleaned(alloc: Global) -> Result<Vec<Leftover>, AllocError> {
+fn leftovers(alloc: Global) -> Result<Vec<Leftover>, AllocError> {
     let mut cleaned = Vec::new(alloc);
     cleaned.push(Leftover::Text(text_file(alloc, ".relmove-run/3", EMPTY)?))?;
     cleaned.push(Leftover::Directory(String::from_str(alloc, "end")?))?;
@@ -73,7 +73,7 @@ fn work(alloc: Global) -> Result<Work, AllocError> {
         .push(rename(alloc, ".relmove-run/1", "\\t/\\\\n")?)?;
     work.placed
         .push(rename(alloc, ".relmove-run/9", "d/é\\n")?)?;
-    work.cleaned = cleaned(alloc)?;
+    work.cleaned = leftovers(alloc)?;
     Ok(work)
 }
 
@@ -84,7 +84,7 @@ const LINES: &str =
 const END: &str = "end\t420\t3a55198636a12f6576acb373338275463999e11109d7388b2d35a6fe4a33989a\n";
 
 // The journal of the work.
-fn pinned(alloc: Global) -> Result<String, AllocError> {
+fn pinned_journal(alloc: Global) -> Result<String, AllocError> {
     let mut text = String::from_str(alloc, LINES)?;
     text.push_str(END)?;
     Ok(text)
@@ -93,7 +93,11 @@ fn pinned(alloc: Global) -> Result<String, AllocError> {
 #[test]
 fn writes_a_journal(rt: HostRuntime) -> Result<(), Fail> {
     let text = journal_text(rt.alloc(), ORIGIN, Stage::Placing, &work(rt.alloc())?)?;
-    same("a journal", &text.as_str(), &pinned(rt.alloc())?.as_str())
+    same(
+        "a journal",
+        &text.as_str(),
+        &pinned_journal(rt.alloc())?.as_str(),
+    )
 }
 
 const STAGES: [Stage; 9] = [
@@ -138,7 +142,7 @@ fn is_none(alloc: Global, case: &str, text: &str) -> Result<(), Fail> {
 
 #[test]
 fn reads_no_journal_that_is_cut_off(rt: HostRuntime) -> Result<(), Fail> {
-    let text = pinned(rt.alloc())?;
+    let text = pinned_journal(rt.alloc())?;
     for end in 0..text.len() {
         if let Some(cut) = text.as_str().get(..end) {
             is_none(rt.alloc(), "a journal that is cut off", cut)?;
@@ -149,7 +153,7 @@ fn reads_no_journal_that_is_cut_off(rt: HostRuntime) -> Result<(), Fail> {
 
 // Whether a journal with another byte is none.
 fn is_none_with(alloc: Global, index: usize, byte: u8) -> Result<(), Fail> {
-    let mut bytes = pinned(alloc)?.into_bytes();
+    let mut bytes = pinned_journal(alloc)?.into_bytes();
     if let Some(changed) = bytes.get_mut(index) {
         *changed = byte;
     }
@@ -158,7 +162,7 @@ fn is_none_with(alloc: Global, index: usize, byte: u8) -> Result<(), Fail> {
     };
     let text = text.as_str();
     let is_older = text.starts_with("relmove journal 1") || text.starts_with("relmove journal 2");
-    if is_older || text == pinned(alloc)?.as_str() {
+    if is_older || text == pinned_journal(alloc)?.as_str() {
         return Ok(());
     }
     is_none(alloc, "a journal with another byte", text)
@@ -166,7 +170,7 @@ fn is_none_with(alloc: Global, index: usize, byte: u8) -> Result<(), Fail> {
 
 #[test]
 fn reads_no_journal_with_another_byte(rt: HostRuntime) -> Result<(), Fail> {
-    for index in 0..pinned(rt.alloc())?.len() {
+    for index in 0..pinned_journal(rt.alloc())?.len() {
         for byte in [b'0', b'a', b'A', b'\t', b'\n', b'\\', b'\0'] {
             is_none_with(rt.alloc(), index, byte)?;
         }

@@ -55,7 +55,7 @@ fn are_journals(
     Ok(())
 }
 
-const FINE: [(&str, &str); 8] = [
+const FINE: [(&str, &str); 9] = [
     ("nothing to do", ""),
     (
         "a move",
@@ -70,6 +70,10 @@ const FINE: [(&str, &str); 8] = [
         "text\t.relmove-run/8\t0\te3b0c44298fc1c149afbf4c8996fb92427ae41e4649b934ca495991b7852b855\ntext\t.relmove-run/9\t0\te3b0c44298fc1c149afbf4c8996fb92427ae41e4649b934ca495991b7852b855\nstaged\ta\t.relmove-run/1\nstaged\tb\t.relmove-run/3\nplaced\t.relmove-run/8\ta\nplaced\t.relmove-run/9\tb\nremoved\t.relmove-run/1\t0\te3b0c44298fc1c149afbf4c8996fb92427ae41e4649b934ca495991b7852b855\nremoved\t.relmove-run/3\t0\te3b0c44298fc1c149afbf4c8996fb92427ae41e4649b934ca495991b7852b855\n",
     ),
     ("a directory", "made\ta/b\n"),
+    (
+        "a directory with a dot that is read",
+        "staged\t.github/a\t.relmove-run/1\nplaced\t.relmove-run/1\td/.github/b\n",
+    ),
     (
         "a directory below a staging name",
         "made\t.relmove-run/1/b\n",
@@ -108,7 +112,7 @@ const BAD_STAGED: [(&str, &str); 15] = [
         "staged\t./a\t.relmove-run/1\nplaced\t.relmove-run/1\tb\n",
     ),
     (
-        "from an own name",
+        "from a reserved name",
         "staged\t.relmove\t.relmove-run/1\nplaced\t.relmove-run/1\tb\n",
     ),
     (
@@ -124,7 +128,7 @@ const BAD_STAGED: [(&str, &str); 15] = [
         "staged\ta\t.relmove-run/\nplaced\t.relmove-run/\tb\n",
     ),
     (
-        "to the own directory",
+        "to the run's directory",
         "staged\ta\t.relmove-run\nplaced\t.relmove-run\tb\n",
     ),
     (
@@ -168,7 +172,7 @@ const BAD_PLACED: [(&str, &str); 9] = [
         "staged\ta\t.relmove-run/1\nplaced\t.relmove-run/1\t/b\n",
     ),
     (
-        "to an own name",
+        "to a reserved name",
         "staged\ta\t.relmove-run/1\nplaced\t.relmove-run/1\t.relmove-journal\n",
     ),
     (
@@ -203,7 +207,7 @@ const BAD_REST: [(&str, &str); 12] = [
     ("made above", "made\t../a\n"),
     ("made with a dot", "made\t.git/a\n"),
     ("made at a staging name", "made\t.relmove-run/1\n"),
-    ("made in the own directory", "made\t.relmove-run/a\n"),
+    ("made in the run's directory", "made\t.relmove-run/a\n"),
     ("made above a staging name", "made\t.relmove-run/1/../a\n"),
     ("emptied above", "emptied\t..\n"),
     ("emptied with a dot", "emptied\t.git\n"),
@@ -292,7 +296,7 @@ const BAD_HEADS: [(&str, &str); 7] = [
         "relmove journal 3\nfile\t2\nrun\t3\nowner\t4\ntime\t5\nstage\tstaging\n",
     ),
     (
-        "no own directory",
+        "no directory of the run",
         "relmove journal 3\nroot\t1\nfile\t2\nowner\t4\ntime\t5\nstage\tstaging\n",
     ),
     (

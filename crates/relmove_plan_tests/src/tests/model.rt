@@ -1,6 +1,6 @@
-//! A tree of files in memory, which the steps of a plan change. As on a disk, a rename takes along all that is below,
+//! A tree of files in memory, which the actions of a plan change. As on a disk, a rename takes along all that is below,
 //! and needs a directory to come to; unlike there, it fails where something is at its new path.
-use relmove_actions::{Rename, Steps};
+use relmove_actions::{Actions, Rename};
 use std::alloc::Global;
 use std::test::Fail;
 
@@ -110,24 +110,24 @@ impl Files {
         self.remove(path)
     }
 
-    /// Does the steps, and sorts the tree.
-    pub fn run(&mut self, alloc: Global, steps: &Steps) -> Result<(), Fail> {
-        for new in &steps.texts {
+    /// Does the actions, and sorts the tree.
+    pub fn run(&mut self, alloc: Global, actions: &Actions) -> Result<(), Fail> {
+        for new in &actions.texts {
             self.write(alloc, &new.file, &new.text)?;
         }
-        for step in &steps.apart {
+        for step in &actions.staged {
             self.rename(alloc, step)?;
         }
-        for path in &steps.made {
+        for path in &actions.made {
             self.write(alloc, path, DIRECTORY)?;
         }
-        for step in &steps.together {
+        for step in &actions.placed {
             self.rename(alloc, step)?;
         }
-        for path in &steps.removed {
+        for path in &actions.removed {
             self.remove(path)?;
         }
-        for path in &steps.emptied {
+        for path in &actions.emptied {
             self.remove_if_empty(alloc, path)?;
         }
         self.nodes.sort()?;

@@ -2,8 +2,9 @@
 use super::model::DIRECTORY;
 use relative_path::RelativePath;
 use relative_path_links::{Markdown, SitePage};
-use relmove_plan::{Entry, Kind, NameRule, Plan, Refusal, Tree, make_plan};
-use std::alloc::Global;
+use relative_path_places::NormalPath;
+use relmove_plan::{Entry, Kind, NameRule, Plan, Refusal, SiteTree, make_plan};
+use std::alloc::{AllocError, Global};
 use std::test::Fail;
 
 fn as_paths<'a>((old, new): (&'a str, &'a str)) -> (RelativePath<'a>, RelativePath<'a>) {
@@ -12,7 +13,7 @@ fn as_paths<'a>((old, new): (&'a str, &'a str)) -> (RelativePath<'a>, RelativePa
 
 // An entry of a row: a directory, a directory with a name that isn't UTF-8, a directory that isn't read, a symbolic
 // link, or a file.
-fn entry_of<'a>((path, text): (&'a str, &'a str)) -> Entry<'a> {
+fn entry_of<'a>(alloc: Global, (path, text): (&'a str, &'a str)) -> Result<Entry<'a>, AllocError> {
     let kind = match text {
         DIRECTORY => Kind::Directory {
             has_foreign_name: false,
@@ -33,26 +34,26 @@ fn entry_of<'a>((path, text): (&'a str, &'a str)) -> Entry<'a> {
             None => Kind::File,
         },
     };
-    Entry {
-        path: RelativePath::new(path),
-        kind,
-    }
+    let path = NormalPath::of(alloc, RelativePath::new(path))?;
+    Ok(Entry { path, kind })
 }
 
 /// The plan for a tree of these rows and these moves.
-pub fn planned(
+pub fn planned<'a>(
     alloc: Global,
     rows: &[(&str, &str)],
-    moves: &[(&str, &str)],
+    moves: &[(&'a str, &'a str)],
     rule: NameRule,
-) -> Result<Result<Plan, Refusal>, Fail> {
+) -> Result<Result<Plan<'a>, Refusal>, Fail> {
     let mut entries = Vec::new(alloc);
-    let mut pages = Vec::new(alloc);
     for (path, text) in rows {
-        entries.push(entry_of((path, text)))?;
+        entries.push(entry_of(alloc, (path, text))?)?;
+    }
+    let mut pages = Vec::new(alloc);
+    for ((path, text), entry) in rows.iter().zip(&entries) {
         if path.ends_with(".md") {
             pages.push(SitePage {
-                path: RelativePath::new(path),
+                path: &entry.path,
                 text,
             })?;
         }
@@ -61,7 +62,7 @@ pub fn planned(
     for pair in moves {
         pairs.push(as_paths(*pair))?;
     }
-    let tree = Tree {
+    let tree = SiteTree {
         entries: &entries,
         pages: &pages,
     };

@@ -9,7 +9,7 @@ use std::test::Fail;
 
 type Rows<'a> = &'a [(&'a str, &'a str)];
 
-// Fails where the steps of the plan for these moves lead to another tree than is expected.
+// Fails where the actions of the plan for these moves lead to another tree than is expected.
 fn leads(
     alloc: Global,
     case: &str,
@@ -22,7 +22,7 @@ fn leads(
         Err(refusal) => return Err(Fail::new(format_args!("{case:?}: {refusal}"))),
     };
     let mut files = Files::of(alloc, before)?;
-    files.run(alloc, &plan.steps)?;
+    files.run(alloc, &plan.actions)?;
     same(case, &files, &Files::of(alloc, after)?)
 }
 
@@ -191,7 +191,7 @@ fn directories_to_which_links_lead(rt: HostRuntime) -> Result<(), Fail> {
 fn names_that_are_taken(rt: HostRuntime) -> Result<(), Fail> {
     leads(
         rt.alloc(),
-        "names in between that are taken",
+        "staging names that are taken",
         &[
             (".relmove-1", "x"),
             ("a.md", "[b](d/b.md)"),
@@ -242,7 +242,7 @@ fn new_and_left(page: &MovedSitePage) -> (usize, usize) {
     (new, left)
 }
 
-// What a plan says besides its steps.
+// What a plan says besides its actions.
 #[test]
 fn pages_that_change(rt: HostRuntime) -> Result<(), Fail> {
     let rows = [

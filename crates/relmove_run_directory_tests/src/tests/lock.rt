@@ -1,9 +1,9 @@
 //! One process works on a root at a time.
-use relmove_disk::{DiskStore, Way, disk_of, file_of};
-use relmove_run::{Ended, Fault, Stage, need_rest};
+use relmove_disk::{DiskStore, disk_of, file_of};
+use relmove_run::{Ended, RunFault, Stage, need_rest};
 use relmove_run_cases::{
-    End, can_be_undone, cases, end_of, first_call_at, gives_reason, is_refused, lock, resume_on,
-    run, run_and_fail, same, undo_on,
+    End, can_be_undone, cases, disk_killed_at, ends_as, first_call_at, gives_reason, is_refused,
+    lock, resume_on, run, same, undo_on,
 };
 use std::alloc::Global;
 use std::test::Fail;
@@ -15,14 +15,10 @@ fn works_alone(rt: HostRuntime) -> Result<(), Fail> {
     let other = lock(&disk)?;
     is_refused(alloc, &cases::SWAP, &disk, "AtWork")?;
     drop(other);
-    same(
-        "free",
-        &end_of(&run(alloc, &cases::SWAP, &disk)?),
-        &End::Done,
-    )?;
+    ends_as("free", run(alloc, &cases::SWAP, &disk), End::Done)?;
     disk.set_locked(true);
-    gives_reason(alloc, &undo_on(&disk), "AtWork")?;
-    gives_reason(alloc, &resume_on(&disk), "AtWork")
+    gives_reason(alloc, undo_on(&disk), "AtWork")?;
+    gives_reason(alloc, resume_on(&disk), "AtWork")
 }
 
 // A call that changes nothing asks for the lock too.
@@ -31,7 +27,7 @@ fn rests_only_without_another_process(rt: HostRuntime) -> Result<(), Fail> {
     let disk = disk_of(rt.alloc(), cases::SWAP.before)?;
     disk.set_locked(true);
     let asked = need_rest(&mut DiskStore::new(&disk, "site")?);
-    same("locked", &matches!(&asked, Err(Fault::AtWork)), &true)
+    same("locked", &matches!(&asked, Err(RunFault::AtWork)), &true)
 }
 
 // Where the lock does nothing, another call ends the run at the same time: it puts its file into the run's own directory
@@ -41,9 +37,9 @@ fn stops_beside_another(alloc: Global, number: u32) -> Result<bool, Fail> {
     disk.add_before(number, "site/.relmove-run/end", file_of(alloc, "")?)?;
     let ended = run(alloc, &cases::FILE_MOVES, &disk)?;
     let is_stopped = matches!(
-        &ended,
+        &*ended,
         Ended::Stopped {
-            fault: Fault::AtWork,
+            fault: RunFault::AtWork,
             ..
         }
     );
@@ -68,14 +64,14 @@ fn stops_if_another_call_ends_the_run(rt: HostRuntime) -> Result<(), Fail> {
 // this one. Whether this one stops at its next stage.
 fn stops_beside_a_third(alloc: Global, first: u32, number: u32) -> Result<bool, Fail> {
     let case = &cases::FILE_MOVES;
-    let (_, disk) = run_and_fail(alloc, case, first, Way::Killed)?;
+    let disk = disk_killed_at(alloc, case, first)?;
     disk.add("site/.relmove-run/end", file_of(alloc, "")?)?;
     disk.replace_before(number, "site/.relmove-run/end", file_of(alloc, "")?)?;
-    let ended = undo_on(&disk);
+    let ended = undo_on(&disk)?;
     let is_stopped = matches!(
-        &ended,
+        &*ended,
         Ended::Stopped {
-            fault: Fault::AtWork,
+            fault: RunFault::AtWork,
             ..
         }
     );

@@ -1,9 +1,10 @@
 //! A run goes through no symbolic link, whenever one comes.
-use relmove_disk::{Content, Disk, Place, Way, disk_of, file_of};
-use relmove_run::{Ended, Stage, Trust, resume};
+use relmove_disk::{Content, Disk, Failing, Place, disk_of, file_of};
+use relmove_run::{Ended, Stage, Trust};
 use relmove_run_cases::{
-    Case, End, Row, calls_of, cases, end_of, first_call_at, gives_reason, has_text, lock,
-    put_journal, resume_on, run, run_and_fail, same, stops_with, undo_on,
+    Case, End, Row, calls_of, cases, disk_killed_at, end_of, ends_as, first_call_at, gives_reason,
+    has_text, put_journal, resume_on, resume_trusting, run, run_and_fail, same, stops_with,
+    undo_on,
 };
 use std::alloc::{AllocError, Global};
 use std::test::Fail;
@@ -13,20 +14,24 @@ fn symlink(alloc: Global, target: &str) -> Result<Content, AllocError> {
     Ok(Content::Symlink(String::from_str(alloc, target)?))
 }
 
-// Puts a symbolic link in the place of a new directory of a run that was killed before a call, if something was to be placed
-// there. The run doesn't end through the link. Returns whether it was put there.
+// Puts a symbolic link in the place of a new directory of a run that stopped. The run doesn't end through the link.
+fn ends_not_through_symlink(alloc: Global, disk: &Disk) -> Result<(), Fail> {
+    disk.add("out", Content::Directory)?;
+    disk.add("out/c", Content::Directory)?;
+    disk.add("site/b", symlink(alloc, "../out")?)?;
+    let ended = resume_on(disk)?;
+    same("done", &matches!(&*ended, Ended::Done(_)), &false)?;
+    same("outside", &disk.has("out/c/z.md")?, &false)
+}
+
+// The same of a run that was killed before a call, if something was to be placed there. Returns whether it was.
 fn stops_at_symlink(alloc: Global, number: u32) -> Result<bool, Fail> {
-    let (ended, disk) = run_and_fail(alloc, &cases::FILE_MOVES, number, Way::Killed)?;
+    let (ended, disk) = run_and_fail(alloc, &cases::FILE_MOVES, number, Failing::Killed)?;
     let is_left = disk.has("site/.relmove-run/1")?;
     if !is_left || end_of(&ended) != End::Stopped(Stage::Placing) {
         return Ok(false);
     }
-    disk.add("out", Content::Directory)?;
-    disk.add("out/c", Content::Directory)?;
-    disk.add("site/b", symlink(alloc, "../out")?)?;
-    let ended = resume_on(&disk);
-    same("done", &matches!(&ended, Ended::Done(_)), &false)?;
-    same("outside", &disk.has("out/c/z.md")?, &false)?;
+    ends_not_through_symlink(alloc, &disk)?;
     Ok(true)
 }
 
@@ -124,11 +129,10 @@ fn kill_of(alloc: Global, exchange: Exchange) -> Result<Option<u32>, Fail> {
 
 // The tree before what is done, without what is outside.
 fn tree_before(alloc: Global, case: &Case, kill: Option<u32>) -> Result<Disk, Fail> {
-    let Some(number) = kill else {
-        return Ok(disk_of(alloc, case.before)?);
-    };
-    let (_, disk) = run_and_fail(alloc, case, number, Way::Killed)?;
-    Ok(disk)
+    match kill {
+        Some(number) => disk_killed_at(alloc, case, number),
+        None => Ok(disk_of(alloc, case.before)?),
+    }
 }
 
 // A disk before the exchange.
@@ -142,14 +146,14 @@ fn disk_before(alloc: Global, exchange: Exchange, kill: Option<u32>) -> Result<D
         };
         disk.add(format!(in alloc; "out/{path}")?.as_str(), content)?;
     }
-    disk.fail_at(0, Way::Refused);
+    disk.fail_at(0, Failing::Refused);
     Ok(disk)
 }
 
 // Does what is done on a disk.
-fn work_on(alloc: Global, exchange: Exchange, disk: &Disk) -> Result<Ended, Fail> {
+fn work_on(alloc: Global, exchange: Exchange, disk: &Disk) -> Result<Box<Ended>, Fail> {
     match exchange.undone_from {
-        Some(_) => Ok(undo_on(disk)),
+        Some(_) => undo_on(disk),
         None => run(alloc, &exchange.case, disk),
     }
 }
@@ -198,8 +202,8 @@ fn asks_for_the_way_before_each_change(rt: HostRuntime) -> Result<(), Fail> {
     Ok(())
 }
 
-// Ends a run with this work, whose first stage was begun, in a folder with the link `d` to a directory outside.
-fn resume_with(alloc: Global, rows: &[Row<'static>]) -> Result<(Ended, Disk), Fail> {
+// A run with this work, whose first stage was begun, in a folder with the link `d` to a directory outside.
+fn disk_with_symlink(alloc: Global, rows: &[Row<'static>]) -> Result<Disk, Fail> {
     let places = [("x", Some("xx")), ("y", Some("yy")), (".relmove-run", None)];
     let disk = disk_of(alloc, &places)?;
     disk.add("out", Content::Directory)?;
@@ -207,8 +211,7 @@ fn resume_with(alloc: Global, rows: &[Row<'static>]) -> Result<(Ended, Disk), Fa
     disk.add("out/e", Content::Directory)?;
     disk.add("site/d", symlink(alloc, "../out")?)?;
     put_journal(alloc, &disk, Stage::Staging, rows)?;
-    let ended = resume(lock(&disk)?, Trust::AnyFolder);
-    Ok((ended, disk))
+    Ok(disk)
 }
 
 const THROUGH_A_LINK: [(&str, &[Row<'static>]); 4] = [
@@ -232,8 +235,9 @@ const THROUGH_A_LINK: [(&str, &[Row<'static>]); 4] = [
 
 // Whether a run with this work isn't ended through the link, and nothing moves.
 fn is_refused_at_once(alloc: Global, case: &str, rows: &[Row<'static>]) -> Result<(), Fail> {
-    let (ended, disk) = resume_with(alloc, rows)?;
-    gives_reason(alloc, &ended, "NotADirectory(\"d\")")?;
+    let disk = disk_with_symlink(alloc, rows)?;
+    let ended = resume_trusting(&disk, Trust::AnyFolder);
+    gives_reason(alloc, ended, "NotADirectory(\"d\")")?;
     has_text(&disk, "site/x", "xx")?;
     has_text(&disk, "out/x", "outside")?;
     same(case, &disk.has("out/e")?, &true)
@@ -257,8 +261,9 @@ fn ends_a_run_that_moves_a_symlink(rt: HostRuntime) -> Result<(), Fail> {
         Row::Placed(".relmove-run/1", "l"),
         Row::Placed(".relmove-run/2", "d/x"),
     ];
-    let (ended, disk) = resume_with(rt.alloc(), &rows)?;
-    same("moved", &end_of(&ended), &End::Done)?;
+    let disk = disk_with_symlink(rt.alloc(), &rows)?;
+    let ended = resume_trusting(&disk, Trust::AnyFolder);
+    ends_as("moved", ended, End::Done)?;
     has_text(&disk, "site/d/x", "xx")?;
     has_text(&disk, "out/x", "outside")
 }
@@ -269,11 +274,11 @@ fn removes_no_second_name_through_a_symlink(rt: HostRuntime) -> Result<(), Fail>
     let (alloc, case) = (rt.alloc(), &cases::PAGE_IN_A_DIRECTORY);
     // The call that puts the journal of the next stage in its place: everything has its staging name.
     let number = first_call_at(alloc, case, Stage::Making)?.saturating_sub(3);
-    let (_, disk) = run_and_fail(alloc, case, number, Way::Killed)?;
+    let disk = disk_killed_at(alloc, case, number)?;
     disk.add("out", Content::Directory)?;
-    disk.add_link("site/.relmove-run/1", "out/a.md")?;
+    disk.add_hard_link("site/.relmove-run/1", "out/a.md")?;
     disk.add("site/.relmove-run/3", symlink(alloc, "../../out")?)?;
     let words = ".relmove-run/3 is no directory: a symbolic link or a file is there";
-    stops_with(alloc, &resume_on(&disk), words)?;
+    stops_with(alloc, resume_on(&disk), words)?;
     same("outside", &disk.has("out/a.md")?, &true)
 }

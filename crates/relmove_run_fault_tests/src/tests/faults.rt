@@ -1,36 +1,36 @@
 //! Each call of a run fails in turn. After each fault no byte is lost, and the run can be ended and taken back.
-use relmove_disk::{Disk, Way, disk_of};
-use relmove_run::{Ended, Fault};
+use relmove_disk::{Disk, Failing, disk_of};
+use relmove_run::{Ended, RunFault};
 use relmove_run_cases::{
-    Case, End, calls_of, can_be_resumed, can_be_undone, cases, end_of, holds, is_done,
-    loses_nothing, remarks_of, resume_on, run, run_and_fail, same,
+    Case, End, calls_of, can_be_resumed, can_be_undone, cases, disk_failed_at, ends_as, holds,
+    is_done, loses_nothing, remarks_of, resume_on, run, run_and_fail, same,
 };
 use std::alloc::Global;
 use std::test::Fail;
 
-const WAYS: [Way; 4] = [
-    Way::Refused,
-    Way::DoneAndFailed,
-    Way::Killed,
-    Way::DoneAndKilled,
+const FAILINGS: [Failing; 4] = [
+    Failing::Refused,
+    Failing::DoneAndFailed,
+    Failing::Killed,
+    Failing::DoneAndKilled,
 ];
 
 // Whether a run that failed at a call loses nothing, and can be ended and taken back.
-fn survives(alloc: Global, case: &Case, number: u32, way: Way) -> Result<(), Fail> {
-    let (ended, disk) = run_and_fail(alloc, case, number, way)?;
+fn survives(alloc: Global, case: &Case, number: u32, failing: Failing) -> Result<(), Fail> {
+    let (ended, disk) = run_and_fail(alloc, case, number, failing)?;
     loses_nothing(alloc, case, &disk)?;
-    match ended {
-        Ended::Done(remarks) => is_done(alloc, case, &disk, &remarks),
+    match &*ended {
+        Ended::Done(remarks) => is_done(alloc, case, &disk, remarks),
         Ended::TakenBack { .. } => Err(Fail::new("the run was taken back")),
         Ended::Refused(_) => {
-            if way == Way::Killed || way == Way::DoneAndKilled {
+            if failing == Failing::Killed || failing == Failing::DoneAndKilled {
                 forgets_new_journal(&disk)?;
             }
             holds(alloc, "refused", &disk, case.before)
         }
         Ended::Stopped { .. } => {
             can_be_resumed(alloc, case, &disk)?;
-            let (_, disk) = run_and_fail(alloc, case, number, way)?;
+            let disk = disk_failed_at(alloc, case, number, failing)?;
             can_be_undone(alloc, case, &disk)
         }
     }
@@ -38,20 +38,19 @@ fn survives(alloc: Global, case: &Case, number: u32, way: Way) -> Result<(), Fai
 
 // A run that could do nothing more may leave a journal that isn't in its place. `resume` removes it.
 fn forgets_new_journal(disk: &Disk) -> Result<(), Fail> {
-    let ended = resume_on(disk);
-    let is_forgotten = matches!(&ended, Ended::Refused(Fault::NoJournal));
+    let ended = resume_on(disk)?;
+    let is_forgotten = matches!(&*ended, Ended::Refused(RunFault::NoJournal));
     same("no journal", &is_forgotten, &true)
 }
 
 // Makes each call of a run fail, in each way.
 fn survives_each_fault(alloc: Global, case: &Case) -> Result<(), Fail> {
     let disk = disk_of(alloc, case.before)?;
-    let ended = run(alloc, case, &disk)?;
-    same(case.name, &end_of(&ended), &End::Done)?;
+    ends_as(case.name, run(alloc, case, &disk), End::Done)?;
     holds(alloc, case.name, &disk, case.after)?;
     for number in 1..=disk.calls() {
-        for way in &WAYS {
-            survives(alloc, case, number, *way)?;
+        for failing in &FAILINGS {
+            survives(alloc, case, number, *failing)?;
         }
     }
     Ok(())
@@ -99,9 +98,9 @@ fn a_file_moves_into_a_directory_that_moves(rt: HostRuntime) -> Result<(), Fail>
 
 // Whether a run survives that a question says once that nothing is there.
 fn survives_an_answer(alloc: Global, case: &Case, number: u32) -> Result<(), Fail> {
-    let (ended, disk) = run_and_fail(alloc, case, number, Way::NotThere)?;
+    let (ended, disk) = run_and_fail(alloc, case, number, Failing::NotThere)?;
     loses_nothing(alloc, case, &disk)?;
-    match &ended {
+    match &*ended {
         Ended::Done(remarks) => is_done(alloc, case, &disk, remarks),
         Ended::TakenBack { .. } | Ended::Refused(_) => {
             same("nothing to say", &remarks_of(&ended).len(), &0)?;
@@ -109,7 +108,7 @@ fn survives_an_answer(alloc: Global, case: &Case, number: u32) -> Result<(), Fai
         }
         Ended::Stopped { .. } => {
             can_be_resumed(alloc, case, &disk)?;
-            let (_, disk) = run_and_fail(alloc, case, number, Way::NotThere)?;
+            let disk = disk_failed_at(alloc, case, number, Failing::NotThere)?;
             can_be_undone(alloc, case, &disk)
         }
     }

@@ -1,8 +1,8 @@
 //! A run on a disk that gets full.
-use relmove_disk::{Way, disk_of};
+use relmove_disk::{Failing, disk_of};
 use relmove_run::{Ended, Stage};
 use relmove_run_cases::{
-    End, cases, end_of, first_call_with, holds, is_done, run, run_and_fail, same, stopped_at,
+    End, cases, disk_stopped_at, ends_as, first_call_with, holds, is_done, run, run_and_fail,
     undo_on,
 };
 use std::alloc::Global;
@@ -14,12 +14,12 @@ fn fits(alloc: Global, room: u64) -> Result<(), Fail> {
     let disk = disk_of(alloc, case.before)?;
     disk.leave_room(room)?;
     let ended = run(alloc, case, &disk)?;
-    match ended {
-        Ended::Done(remarks) => is_done(alloc, case, &disk, &remarks),
+    match &*ended {
+        Ended::Done(remarks) => is_done(alloc, case, &disk, remarks),
         Ended::Refused(_) => holds(alloc, "refused", &disk, case.before),
         Ended::TakenBack { .. } => Err(Fail::new("the run was taken back")),
         Ended::Stopped { .. } => {
-            same("undone", &end_of(&undo_on(&disk)), &End::TakenBack)?;
+            ends_as("undone", undo_on(&disk), End::TakenBack)?;
             holds(alloc, "undone", &disk, case.before)
         }
     }
@@ -38,8 +38,8 @@ fn goes_back_on_a_full_disk(rt: HostRuntime) -> Result<(), Fail> {
 fn goes_on_without_a_spare_journal(rt: HostRuntime) -> Result<(), Fail> {
     let (alloc, case) = (rt.alloc(), &cases::FILE_MOVES);
     let number = first_call_with(alloc, case, "site/.relmove-spare")?.saturating_sub(1);
-    let (ended, disk) = run_and_fail(alloc, case, number, Way::Refused)?;
-    same("done", &end_of(&ended), &End::Done)?;
+    let (ended, disk) = run_and_fail(alloc, case, number, Failing::Refused)?;
+    ends_as("done", Ok(ended), End::Done)?;
     holds(alloc, "done", &disk, case.after)
 }
 
@@ -49,7 +49,7 @@ fn ends_with_room(alloc: Global, journals: u64, more: u64) -> Result<(), Fail> {
     let case = &cases::SWAP;
     let disk = disk_of(alloc, case.before)?;
     disk.leave_room(journals.saturating_add(more))?;
-    same("done", &end_of(&run(alloc, case, &disk)?), &End::Done)?;
+    ends_as("done", run(alloc, case, &disk), End::Done)?;
     holds(alloc, "done", &disk, case.after)
 }
 
@@ -57,7 +57,7 @@ fn ends_with_room(alloc: Global, journals: u64, more: u64) -> Result<(), Fail> {
 #[test]
 fn ends_on_a_disk_that_its_journals_fill(rt: HostRuntime) -> Result<(), Fail> {
     let alloc = rt.alloc();
-    let disk = stopped_at(alloc, &cases::SWAP, Stage::Staging)?;
+    let disk = disk_stopped_at(alloc, &cases::SWAP, Stage::Staging)?;
     let journal = disk.text_at("site/.relmove")?.len() as u64;
     let spare = disk.text_at("site/.relmove-spare")?.len() as u64;
     let journals = journal.saturating_add(spare);

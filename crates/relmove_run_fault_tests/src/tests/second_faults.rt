@@ -1,11 +1,11 @@
 //! A run is killed, and then each call of its end, or of its undoing, fails in turn. After both no byte is lost, and the
 //! run can be ended and taken back.
-use relmove_disk::{Disk, Way, disk_of, file_of};
+use relmove_disk::{Disk, Failing, disk_of, file_of};
 use relmove_run::{Ended, Stage};
 use relmove_run_cases::{
-    Case, End, Ending, calls_of, can_be_resumed, can_be_undone, cases, end_of, first_call_at,
-    holds, is_done, loses_nothing, moments_of, resume_on, run, run_and_fail, same, stopped_at,
-    stops_with,
+    Case, End, Ending, calls_of, can_be_resumed, can_be_undone, cases, disk_killed_at,
+    disk_stopped_at, ends_as, first_call_at, holds, is_done, loses_nothing, moments_of, resume_on,
+    run, run_and_fail, same, stops_with,
 };
 use std::alloc::Global;
 use std::test::Fail;
@@ -16,16 +16,20 @@ struct Faults {
     first: u32,
     ending: Ending,
     second: u32,
-    way: Way,
+    failing: Failing,
 }
 
 // How what ends a run ended after two faults, the tree then, and whether the second fault came before the end.
-fn disk_after(alloc: Global, case: &Case, faults: Faults) -> Result<(Ended, Disk, bool), Fail> {
-    let (_, disk) = run_and_fail(alloc, case, faults.first, Way::Killed)?;
-    disk.fail_at(faults.second, faults.way);
-    let ended = faults.ending.on(&disk);
+fn disk_after(
+    alloc: Global,
+    case: &Case,
+    faults: Faults,
+) -> Result<(Box<Ended>, Disk, bool), Fail> {
+    let disk = disk_killed_at(alloc, case, faults.first)?;
+    disk.fail_at(faults.second, faults.failing);
+    let ended = faults.ending.on(&disk)?;
     let is_within = disk.calls() >= faults.second;
-    disk.fail_at(0, Way::Refused);
+    disk.fail_at(0, Failing::Refused);
     Ok((ended, disk, is_within))
 }
 
@@ -33,7 +37,7 @@ fn disk_after(alloc: Global, case: &Case, faults: Faults) -> Result<(Ended, Disk
 fn survives(alloc: Global, case: &Case, faults: Faults) -> Result<bool, Fail> {
     let (ended, disk, is_within) = disk_after(alloc, case, faults)?;
     loses_nothing(alloc, case, &disk)?;
-    if let Ended::Done(remarks) = &ended {
+    if let Ended::Done(remarks) = &*ended {
         is_done(alloc, case, &disk, remarks)?;
         return Ok(is_within);
     }
@@ -43,20 +47,20 @@ fn survives(alloc: Global, case: &Case, faults: Faults) -> Result<bool, Fail> {
     Ok(is_within)
 }
 
-// Makes each call of what ends a run fail, in this way, after a kill before a call of the run.
+// Makes each call of what ends a run fail, in one of the ways, after a kill before a call of the run.
 fn survives_from(
     alloc: Global,
     case: &Case,
     first: u32,
     ending: Ending,
-    way: Way,
+    failing: Failing,
 ) -> Result<(), Fail> {
     for second in 1..10_000 {
         let faults = Faults {
             first,
             ending,
             second,
-            way,
+            failing,
         };
         if !survives(alloc, case, faults)? {
             return Ok(());
@@ -68,8 +72,8 @@ fn survives_from(
 // Makes each call of what ends a run fail, after a kill at each moment.
 fn survives_second_faults(alloc: Global, case: &Case, ending: Ending) -> Result<(), Fail> {
     for first in moments_of(alloc, case)? {
-        for way in &[Way::Refused, Way::DoneAndFailed, Way::Killed] {
-            survives_from(alloc, case, first, ending, *way)?;
+        for failing in &[Failing::Refused, Failing::DoneAndFailed, Failing::Killed] {
+            survives_from(alloc, case, first, ending, *failing)?;
         }
     }
     Ok(())
@@ -103,11 +107,11 @@ fn a_file_comes_back_from_a_directory_that_moved(rt: HostRuntime) -> Result<(), 
 
 // Fails a run at a call, and then its end at another one. Whether it can be ended then.
 fn survives_two(alloc: Global, case: &Case, first: u32, second: u32) -> Result<bool, Fail> {
-    let (_, disk) = run_and_fail(alloc, case, first, Way::Killed)?;
-    disk.fail_at(second, Way::Refused);
-    resume_on(&disk);
+    let disk = disk_killed_at(alloc, case, first)?;
+    disk.fail_at(second, Failing::Refused);
+    resume_on(&disk)?;
     let is_last = disk.calls() < second;
-    disk.fail_at(0, Way::Refused);
+    disk.fail_at(0, Failing::Refused);
     loses_nothing(alloc, case, &disk)?;
     can_be_resumed(alloc, case, &disk)?;
     Ok(is_last)
@@ -129,11 +133,11 @@ fn survives_a_fault_of_its_end(rt: HostRuntime) -> Result<(), Fail> {
 // Fails two calls of a run. Whether it stopped without a journal.
 fn stops_without_journal(alloc: Global, first: u32, second: u32) -> Result<bool, Fail> {
     let disk = disk_of(alloc, cases::SWAP.before)?;
-    disk.fail_at(first, Way::Refused);
+    disk.fail_at(first, Failing::Refused);
     disk.refuse_at(second);
     let ended = run(alloc, &cases::SWAP, &disk)?;
-    disk.fail_at(0, Way::Refused);
-    Ok(matches!(&ended, Ended::Stopped { .. }) && !disk.has("site/.relmove")?)
+    disk.fail_at(0, Failing::Refused);
+    Ok(matches!(&*ended, Ended::Stopped { .. }) && !disk.has("site/.relmove")?)
 }
 
 // A run that left nothing but the next journal didn't stop in the middle.
@@ -153,11 +157,11 @@ fn stops_only_with_a_journal(rt: HostRuntime) -> Result<(), Fail> {
 
 // Whether the end of a run that was to place files names what isn't there.
 fn names_what_is_gone(alloc: Global) -> Result<(), Fail> {
-    let disk = stopped_at(alloc, &cases::FILE_MOVES, Stage::Placing)?;
+    let disk = disk_stopped_at(alloc, &cases::FILE_MOVES, Stage::Placing)?;
     disk.remove("site/b")?;
-    stops_with(alloc, &resume_on(&disk), "b isn't there")?;
+    stops_with(alloc, resume_on(&disk), "b isn't there")?;
     disk.remove("site/.relmove-run/1")?;
-    stops_with(alloc, &resume_on(&disk), ".relmove-run/1 isn't there")
+    stops_with(alloc, resume_on(&disk), ".relmove-run/1 isn't there")
 }
 
 // What ends a run names the path at which it stops.
@@ -165,20 +169,20 @@ fn names_what_is_gone(alloc: Global) -> Result<(), Fail> {
 fn names_where_it_stops(rt: HostRuntime) -> Result<(), Fail> {
     let alloc = rt.alloc();
     names_what_is_gone(alloc)?;
-    let disk = stopped_at(alloc, &cases::FILE_MOVES, Stage::Making)?;
+    let disk = disk_stopped_at(alloc, &cases::FILE_MOVES, Stage::Making)?;
     disk.add("site/b", file_of(alloc, "mine")?)?;
     let words = "b is no directory: a symbolic link or a file is there";
-    stops_with(alloc, &resume_on(&disk), words)
+    stops_with(alloc, resume_on(&disk), words)
 }
 
 // Fails two calls of a run: the first one is done, and reported as failed. The run can be ended and taken back.
 fn survives_report(alloc: Global, first: u32, second: u32) -> Result<(), Fail> {
     let case = &cases::PAGE_CHANGES;
     let disk = disk_of(alloc, case.before)?;
-    disk.fail_at(first, Way::DoneAndFailed);
+    disk.fail_at(first, Failing::DoneAndFailed);
     disk.refuse_at(second);
     run(alloc, case, &disk)?;
-    disk.fail_at(0, Way::Refused);
+    disk.fail_at(0, Failing::Refused);
     loses_nothing(alloc, case, &disk)?;
     can_be_undone(alloc, case, &disk)
 }
@@ -190,8 +194,8 @@ fn goes_back_from_a_journal_that_was_reported_as_failed(rt: HostRuntime) -> Resu
     let (alloc, case) = (rt.alloc(), &cases::PAGE_CHANGES);
     // The question for the root and its sync come between the rename of the journal and the first call at a stage.
     let first = first_call_at(alloc, case, Stage::Staging)?.saturating_sub(3);
-    let (ended, disk) = run_and_fail(alloc, case, first, Way::DoneAndFailed)?;
-    same("refused", &end_of(&ended), &End::Refused)?;
+    let (ended, disk) = run_and_fail(alloc, case, first, Failing::DoneAndFailed)?;
+    ends_as("refused", Ok(ended), End::Refused)?;
     holds(alloc, "refused", &disk, case.before)?;
     for more in 1..100u32 {
         survives_report(alloc, first, first.saturating_add(more))?;
@@ -205,11 +209,11 @@ fn stops_if_it_cannot_say_that_it_goes_back(rt: HostRuntime) -> Result<(), Fail>
     let (alloc, case) = (rt.alloc(), &cases::PAGE_CHANGES);
     let first = first_call_at(alloc, case, Stage::Staging)?.saturating_sub(3);
     let disk = disk_of(alloc, case.before)?;
-    disk.fail_at(first, Way::DoneAndFailed);
+    disk.fail_at(first, Failing::DoneAndFailed);
     disk.refuse_at(first.saturating_add(1));
-    let ended = run(alloc, case, &disk)?;
-    disk.fail_at(0, Way::Refused);
-    same("stopped", &end_of(&ended), &End::Stopped(Stage::Staging))?;
+    let ended = run(alloc, case, &disk);
+    disk.fail_at(0, Failing::Refused);
+    ends_as("stopped", ended, End::Stopped(Stage::Staging))?;
     same("a text", &disk.has("site/.relmove-run/9")?, &true)?;
     can_be_undone(alloc, case, &disk)
 }
@@ -219,8 +223,8 @@ fn stops_if_it_cannot_say_that_it_goes_back(rt: HostRuntime) -> Result<(), Fail>
 fn is_done_without_its_journal(rt: HostRuntime) -> Result<(), Fail> {
     let (alloc, case) = (rt.alloc(), &cases::FILE_MOVES);
     let last = calls_of(alloc, case)?;
-    let (ended, disk) = run_and_fail(alloc, case, last, Way::DoneAndFailed)?;
-    same("done", &end_of(&ended), &End::Done)?;
+    let (ended, disk) = run_and_fail(alloc, case, last, Failing::DoneAndFailed)?;
+    ends_as("done", Ok(ended), End::Done)?;
     holds(alloc, "done", &disk, case.after)
 }
 
@@ -229,7 +233,7 @@ fn is_done_without_its_journal(rt: HostRuntime) -> Result<(), Fail> {
 fn an_end_has_a_wrong_answer(rt: HostRuntime) -> Result<(), Fail> {
     let (alloc, case) = (rt.alloc(), &cases::PAGE_CHANGES);
     for first in moments_of(alloc, case)? {
-        survives_from(alloc, case, first, Ending::Resume, Way::NotThere)?;
+        survives_from(alloc, case, first, Ending::Resume, Failing::NotThere)?;
     }
     Ok(())
 }

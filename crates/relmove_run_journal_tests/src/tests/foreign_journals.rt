@@ -1,8 +1,9 @@
 //! A journal is believed only in the folder in which it was written.
 use relmove_disk::{Content, Disk, file_of};
-use relmove_run::{OWN_DIRECTORY, Stage, StoppedRun, Trust, Way, join, undo};
+use relmove_run::{Direction, RUN_DIRECTORY, Stage, StoppedRun, Trust, join};
 use relmove_run_cases::{
-    End, cases, end_of, gives_reason, holds, lock, resume_on, same, stopped_at, undo_on,
+    End, cases, disk_stopped_at, ends_as, gives_reason, holds, lock, resume_on, same, undo_on,
+    undo_trusting,
 };
 use std::alloc::Global;
 use std::test::Fail;
@@ -10,18 +11,17 @@ use std::test::Fail;
 // Whether a journal isn't believed here, and is if the caller trusts it.
 fn is_foreign(alloc: Global, case: &str, disk: &Disk) -> Result<(), Fail> {
     let before = disk.listing()?;
-    gives_reason(alloc, &resume_on(disk), "ForeignJournal")?;
-    gives_reason(alloc, &undo_on(disk), "ForeignJournal")?;
+    gives_reason(alloc, resume_on(disk), "ForeignJournal")?;
+    gives_reason(alloc, undo_on(disk), "ForeignJournal")?;
     same(case, &disk.listing()?, &before)?;
-    let ended = undo(lock(disk)?, Trust::AnyFolder);
-    same(case, &end_of(&ended), &End::TakenBack)?;
+    ends_as(case, undo_trusting(disk, Trust::AnyFolder), End::TakenBack)?;
     holds(alloc, case, disk, cases::SWAP.before)
 }
 
 #[test]
 fn believes_no_copy_of_a_journal(rt: HostRuntime) -> Result<(), Fail> {
     let alloc = rt.alloc();
-    let disk = stopped_at(alloc, &cases::SWAP, Stage::Placing)?;
+    let disk = disk_stopped_at(alloc, &cases::SWAP, Stage::Placing)?;
     let text = disk.text_at("site/.relmove")?;
     disk.remove("site/.relmove")?;
     disk.add("site/.relmove", Content::File(text))?;
@@ -37,10 +37,16 @@ const NAMES: [&str; 4] = [
 ];
 
 // Gives a file its name in another directory too, if it is there.
-fn link_name(alloc: Global, disk: &Disk, from: &str, to: &str, name: &str) -> Result<(), Fail> {
+fn hard_link_name(
+    alloc: Global,
+    disk: &Disk,
+    from: &str,
+    to: &str,
+    name: &str,
+) -> Result<(), Fail> {
     let from = join(alloc, from, name)?;
     if disk.has(from.as_str())? {
-        disk.add_link(from.as_str(), join(alloc, to, name)?.as_str())?;
+        disk.add_hard_link(from.as_str(), join(alloc, to, name)?.as_str())?;
     }
     Ok(())
 }
@@ -48,10 +54,10 @@ fn link_name(alloc: Global, disk: &Disk, from: &str, to: &str, name: &str) -> Re
 // Moves the files of a run to a new directory. They keep their inodes.
 fn move_files(alloc: Global, disk: &Disk, from: &str, to: &str) -> Result<(), Fail> {
     disk.add(to, Content::Directory)?;
-    let own = join(alloc, to, OWN_DIRECTORY)?;
-    disk.add(own.as_str(), Content::Directory)?;
+    let directory = join(alloc, to, RUN_DIRECTORY)?;
+    disk.add(directory.as_str(), Content::Directory)?;
     for name in &NAMES {
-        link_name(alloc, disk, from, to, name)?;
+        hard_link_name(alloc, disk, from, to, name)?;
     }
     Ok(disk.remove(from)?)
 }
@@ -60,7 +66,7 @@ fn move_files(alloc: Global, disk: &Disk, from: &str, to: &str) -> Result<(), Fa
 #[test]
 fn believes_no_journal_of_another_directory(rt: HostRuntime) -> Result<(), Fail> {
     let alloc = rt.alloc();
-    let disk = stopped_at(alloc, &cases::SWAP, Stage::Placing)?;
+    let disk = disk_stopped_at(alloc, &cases::SWAP, Stage::Placing)?;
     move_files(alloc, &disk, "site", "copy")?;
     move_files(alloc, &disk, "copy", "site")?;
     is_foreign(alloc, "another directory", &disk)
@@ -69,14 +75,13 @@ fn believes_no_journal_of_another_directory(rt: HostRuntime) -> Result<(), Fail>
 // Whether a journal with another name isn't believed, and is if the caller trusts it.
 fn is_linked(alloc: Global, case: &str, disk: &Disk) -> Result<(), Fail> {
     let before = disk.listing()?;
-    gives_reason(alloc, &resume_on(disk), "LinkedJournal")?;
-    gives_reason(alloc, &undo_on(disk), "LinkedJournal")?;
+    gives_reason(alloc, resume_on(disk), "LinkedJournal")?;
+    gives_reason(alloc, undo_on(disk), "LinkedJournal")?;
     same(case, &disk.listing()?, &before)?;
     let run = StoppedRun::read(&mut lock(disk)?, Trust::AnyFolder)?;
-    let changes = run.changes(alloc, Way::Undo)?;
+    let changes = run.changes(alloc, Direction::Undo)?;
     same(case, &changes.is_empty(), &false)?;
-    let ended = undo(lock(disk)?, Trust::AnyFolder);
-    same(case, &end_of(&ended), &End::TakenBack)?;
+    ends_as(case, undo_trusting(disk, Trust::AnyFolder), End::TakenBack)?;
     disk.remove("o")?;
     holds(alloc, case, disk, cases::SWAP.before)
 }
@@ -93,12 +98,12 @@ enum Next {
 
 // A run that stopped, whose journal has another name outside the root.
 fn linked_disk(alloc: Global, next: Next) -> Result<Disk, Fail> {
-    let disk = stopped_at(alloc, &cases::SWAP, Stage::Placing)?;
-    disk.add_link("site/.relmove", "o")?;
+    let disk = disk_stopped_at(alloc, &cases::SWAP, Stage::Placing)?;
+    disk.add_hard_link("site/.relmove", "o")?;
     match next {
         Next::Nothing => {}
         Next::Beginning => disk.add("site/.relmove-journal", file_of(alloc, "relmove j")?)?,
-        Next::Name => disk.add_link("site/.relmove", "site/.relmove-journal")?,
+        Next::Name => disk.add_hard_link("site/.relmove", "site/.relmove-journal")?,
     }
     Ok(disk)
 }

@@ -1,8 +1,8 @@
 //! A journal in a directory below the root, or above it, refuses a run.
-use relmove_disk::{Content, DiskStore, Way, disk_of, file_of};
+use relmove_disk::{Content, DiskStore, disk_of, file_of};
 use relmove_run::{need_no_journal_near, need_rest};
 use relmove_run_cases::{
-    End, calls_of, cases, end_of, has_text, holds, is_refused, run, run_and_fail, same,
+    End, calls_of, cases, disk_killed_at, ends_as, has_text, holds, is_refused, run, same,
 };
 use std::alloc::Global;
 use std::test::Fail;
@@ -40,8 +40,7 @@ fn passes_over_what_no_run_left_near(rt: HostRuntime) -> Result<(), Fail> {
     for path in [".relmove", "site/a/.relmove"] {
         let disk = disk_of(alloc, cases::DIRECTORY_MOVES.before)?;
         disk.add(path, Content::Directory)?;
-        let ended = run(alloc, &cases::DIRECTORY_MOVES, &disk)?;
-        same(path, &end_of(&ended), &End::Done)?;
+        ends_as(path, run(alloc, &cases::DIRECTORY_MOVES, &disk), End::Done)?;
     }
     Ok(())
 }
@@ -51,7 +50,7 @@ fn sees_journal_before(alloc: Global, path: &str, number: u32) -> Result<(), Fai
     let case = &cases::FILE_MOVES;
     let disk = disk_of(alloc, case.before)?;
     disk.add_before(number, path, file_of(alloc, "jj")?)?;
-    same(path, &end_of(&run(alloc, case, &disk)?), &End::Refused)?;
+    ends_as(path, run(alloc, case, &disk), End::Refused)?;
     has_text(&disk, path, "jj")?;
     disk.remove(path)?;
     holds(alloc, path, &disk, case.before)
@@ -61,7 +60,7 @@ fn sees_journal_before(alloc: Global, path: &str, number: u32) -> Result<(), Fai
 fn sees_journal_at(alloc: Global, path: &str) -> Result<(), Fail> {
     let case = &cases::FILE_MOVES;
     for number in 1..=calls_of(alloc, case)? {
-        let (_, disk) = run_and_fail(alloc, case, number, Way::Killed)?;
+        let disk = disk_killed_at(alloc, case, number)?;
         if disk.has("site/.relmove")? {
             return Ok(());
         }
@@ -80,15 +79,20 @@ fn asks_for_journals_above_again(rt: HostRuntime) -> Result<(), Fail> {
     sees_journal_at(rt.alloc(), ".relmove")
 }
 
+// Whether a run asks once whether something is at a path.
+fn asks_once_at(alloc: Global, path: &str) -> Result<(), Fail> {
+    let case = &cases::FILE_MOVES;
+    let disk = disk_of(alloc, case.before)?;
+    disk.count_questions(path)?;
+    ends_as(path, run(alloc, case, &disk), End::Done)?;
+    same(path, &disk.questions(), &1)
+}
+
 // A run looks for journals near once. Its caller has looked for them before.
 #[test]
 fn asks_once(rt: HostRuntime) -> Result<(), Fail> {
-    let (alloc, case) = (rt.alloc(), &cases::FILE_MOVES);
     for path in [".relmove", "site/a/.relmove"] {
-        let disk = disk_of(alloc, case.before)?;
-        disk.count_questions(path)?;
-        same(path, &end_of(&run(alloc, case, &disk)?), &End::Done)?;
-        same(path, &disk.questions(), &1)?;
+        asks_once_at(rt.alloc(), path)?;
     }
     Ok(())
 }

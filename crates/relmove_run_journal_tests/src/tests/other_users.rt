@@ -1,18 +1,18 @@
 //! A journal that another user wrote is believed by nobody but root, and one that was written to another file by nobody.
-use relmove_disk::{Disk, DiskStore, Way, disk_of, file_of};
+use relmove_disk::{Disk, DiskStore, disk_of, file_of};
 use relmove_run::{
-    Found, Journal, Origin, Remark, Stage, Trust, journal_text, need_no_journal_near, undo,
+    Found, Journal, Origin, Remark, Stage, Trust, journal_text, need_no_journal_near,
 };
 use relmove_run_cases::{
-    End, cases, end_of, first_call_with, gives_reason, holds, is_refused, journal_on, lock,
-    remarks_of, resume_on, run, run_and_fail, same, stopped_at, undo_on,
+    End, cases, disk_killed_at, disk_stopped_at, end_of, ends_as, first_call_with, gives_reason,
+    holds, is_refused, journal_on, remarks_of, resume_on, run, same, undo_on, undo_trusting,
 };
 use std::alloc::Global;
 use std::test::Fail;
 
 // What is at a path.
 fn found_at(disk: &Disk, path: &str) -> Result<Found, Fail> {
-    match DiskStore::new(disk, "site")?.seen(path)? {
+    match DiskStore::new(disk, "site")?.see(path)? {
         Some(found) => Ok(found),
         None => Err(Fail::new("nothing is there")),
     }
@@ -27,8 +27,8 @@ fn forge(alloc: Global, disk: &Disk, origin: Origin) -> Result<(), Fail> {
 
 // A disk with a journal that another user planted: the journal says all that this user can know of its file. Beside it are a
 // next journal and a spare one.
-fn planted(alloc: Global) -> Result<Disk, Fail> {
-    let disk = stopped_at(alloc, &cases::SWAP, Stage::Placing)?;
+fn disk_with_planted_journal(alloc: Global) -> Result<Disk, Fail> {
+    let disk = disk_stopped_at(alloc, &cases::SWAP, Stage::Placing)?;
     disk.set_owner("site/.relmove", 7, 7)?;
     disk.set_mode("site/.relmove", 0o644)?;
     let origin = Origin {
@@ -44,29 +44,35 @@ fn planted(alloc: Global) -> Result<Disk, Fail> {
 #[test]
 fn ends_no_run_of_another_user(rt: HostRuntime) -> Result<(), Fail> {
     let alloc = rt.alloc();
-    let disk = planted(alloc)?;
+    let disk = disk_with_planted_journal(alloc)?;
     let before = disk.listing()?;
-    gives_reason(alloc, &resume_on(&disk), "OthersJournal(7)")?;
-    gives_reason(alloc, &undo_on(&disk), "OthersJournal(7)")?;
-    let ended = undo(lock(&disk)?, Trust::AnyFolder);
-    gives_reason(alloc, &ended, "OthersJournal(7)")?;
+    gives_reason(alloc, resume_on(&disk), "OthersJournal(7)")?;
+    gives_reason(alloc, undo_on(&disk), "OthersJournal(7)")?;
+    gives_reason(
+        alloc,
+        undo_trusting(&disk, Trust::AnyFolder),
+        "OthersJournal(7)",
+    )?;
     same("nothing changes", &disk.listing()?, &before)
 }
 
 #[test]
 fn lets_root_end_a_run_that_it_trusts(rt: HostRuntime) -> Result<(), Fail> {
     let alloc = rt.alloc();
-    let disk = planted(alloc)?;
+    let disk = disk_with_planted_journal(alloc)?;
     disk.set_user(0, 0)?;
-    gives_reason(alloc, &undo_on(&disk), "OthersJournal(7)")?;
-    let ended = undo(lock(&disk)?, Trust::AnyFolder);
-    same("ended", &end_of(&ended), &End::TakenBack)?;
+    gives_reason(alloc, undo_on(&disk), "OthersJournal(7)")?;
+    ends_as(
+        "ended",
+        undo_trusting(&disk, Trust::AnyFolder),
+        End::TakenBack,
+    )?;
     holds(alloc, "taken back", &disk, cases::SWAP.before)
 }
 
 // A run that was killed before a call, on a disk that is full now. The root has these permissions.
 fn full_disk(alloc: Global, number: u32, mode: u32) -> Result<Disk, Fail> {
-    let (_, disk) = run_and_fail(alloc, &cases::PAGE_CHANGES, number, Way::Killed)?;
+    let disk = disk_killed_at(alloc, &cases::PAGE_CHANGES, number)?;
     disk.set_mode("site", mode)?;
     disk.leave_room(0)?;
     Ok(disk)
@@ -77,7 +83,7 @@ fn ends_on_a_full_disk(alloc: Global, number: u32, mode: u32, end: End) -> Resul
     let disk = full_disk(alloc, number, mode)?;
     disk.remove("site/.relmove-spare")?;
     disk.leave_room(0)?;
-    same("an end", &end_of(&undo_on(&disk)), &end)
+    ends_as("an end", undo_on(&disk), end)
 }
 
 // The spare journal makes way for the file that tells who calls.
@@ -86,13 +92,13 @@ fn knows_its_caller_on_a_full_disk(rt: HostRuntime) -> Result<(), Fail> {
     let (alloc, case) = (rt.alloc(), &cases::PAGE_CHANGES);
     let number = first_call_with(alloc, case, "site/.relmove-run/9")?;
     let disk = full_disk(alloc, number, 0o777)?;
-    same("an end", &end_of(&undo_on(&disk)), &End::TakenBack)
+    ends_as("an end", undo_on(&disk), End::TakenBack)
 }
 
 // On a full disk without a spare journal no file can be made: then a journal is believed where nobody but its owner can have
 // written it.
 #[test]
-fn ends_its_own_run_on_a_full_disk(rt: HostRuntime) -> Result<(), Fail> {
+fn lets_the_owner_end_a_run_on_a_full_disk(rt: HostRuntime) -> Result<(), Fail> {
     let (alloc, case) = (rt.alloc(), &cases::PAGE_CHANGES);
     let number = first_call_with(alloc, case, "site/.relmove-run/9")?;
     ends_on_a_full_disk(alloc, number, 0o755, End::TakenBack)?;
@@ -103,7 +109,7 @@ fn ends_its_own_run_on_a_full_disk(rt: HostRuntime) -> Result<(), Fail> {
 #[test]
 fn believes_no_journal_of_another_time(rt: HostRuntime) -> Result<(), Fail> {
     let alloc = rt.alloc();
-    let disk = stopped_at(alloc, &cases::SWAP, Stage::Placing)?;
+    let disk = disk_stopped_at(alloc, &cases::SWAP, Stage::Placing)?;
     let origin = journal_on(alloc, &disk)?.origin;
     let found = found_at(&disk, ".relmove")?;
     same("its time", &origin.time, &found.made)?;
@@ -116,9 +122,12 @@ fn believes_no_journal_of_another_time(rt: HostRuntime) -> Result<(), Fail> {
             ..origin
         },
     )?;
-    gives_reason(alloc, &resume_on(&disk), "ForeignJournal")?;
-    let ended = undo(lock(&disk)?, Trust::AnyFolder);
-    same("trusted", &end_of(&ended), &End::TakenBack)?;
+    gives_reason(alloc, resume_on(&disk), "ForeignJournal")?;
+    ends_as(
+        "trusted",
+        undo_trusting(&disk, Trust::AnyFolder),
+        End::TakenBack,
+    )?;
     holds(alloc, "trusted", &disk, cases::SWAP.before)
 }
 

@@ -1,16 +1,16 @@
 //! A loss of power after which a file that was renamed has both names: what ends the run removes the name that is to be left.
-use relmove_disk::{Disk, Way, file_of};
+use relmove_disk::{Disk, Failing, file_of};
 use relmove_run::Stage;
 use relmove_run_cases::{
-    Case, End, calls_of, can_be_resumed, can_be_undone, cases, end_of, first_call_at, has_text,
-    loses_nothing, resume_on, run_and_fail, same, stopped_at, undo_on,
+    Case, End, calls_of, can_be_resumed, can_be_undone, cases, disk_killed_at, disk_stopped_at,
+    ends_as, first_call_at, has_text, loses_nothing, resume_on, same, undo_on,
 };
 use std::alloc::Global;
 use std::test::Fail;
 
 // The tree after the power was lost before a call of a run, with so many changes on the disk, if a file has both names.
 fn lose(alloc: Global, case: &Case, number: u32, kept: usize) -> Result<Option<Disk>, Fail> {
-    let (_, disk) = run_and_fail(alloc, case, number, Way::Killed)?;
+    let disk = disk_killed_at(alloc, case, number)?;
     if disk.lose_power_and_keep_names(kept)? {
         return Ok(Some(disk));
     }
@@ -34,8 +34,8 @@ fn survives(alloc: Global, case: &Case, number: u32, kept: usize) -> Result<bool
 fn survives_each_loss(alloc: Global, case: &Case) -> Result<(), Fail> {
     let mut count = 0u32;
     for number in 1..=calls_of(alloc, case)? {
-        let (_, disk) = run_and_fail(alloc, case, number, Way::Killed)?;
-        for kept in 0..=disk.unsynced()? {
+        let disk = disk_killed_at(alloc, case, number)?;
+        for kept in 0..=disk.count_unsynced()? {
             if survives(alloc, case, number, kept)? {
                 count = count.saturating_add(1);
             }
@@ -62,11 +62,11 @@ fn a_page_leaves_a_directory_that_moves(rt: HostRuntime) -> Result<(), Fail> {
 // The tree before a call of what takes a run back that was killed when everything was at its new path, and whether there is
 // such a call.
 fn disk_at(alloc: Global, case: &Case, first: u32, second: u32) -> Result<(Disk, bool), Fail> {
-    let (_, disk) = run_and_fail(alloc, case, first, Way::Killed)?;
-    disk.fail_at(second, Way::Killed);
-    undo_on(&disk);
+    let disk = disk_killed_at(alloc, case, first)?;
+    disk.fail_at(second, Failing::Killed);
+    undo_on(&disk)?;
     let is_within = disk.calls() >= second;
-    disk.fail_at(0, Way::Killed);
+    disk.fail_at(0, Failing::Killed);
     Ok((disk, is_within))
 }
 
@@ -107,15 +107,11 @@ fn a_page_comes_back_into_a_directory_that_moved(rt: HostRuntime) -> Result<(), 
 #[test]
 fn keeps_two_files_that_have_two_names(rt: HostRuntime) -> Result<(), Fail> {
     let alloc = rt.alloc();
-    let disk = stopped_at(alloc, &cases::FILE_MOVES, Stage::Staging)?;
-    disk.add_link("site/a/x.md", "o")?;
+    let disk = disk_stopped_at(alloc, &cases::FILE_MOVES, Stage::Staging)?;
+    disk.add_hard_link("site/a/x.md", "o")?;
     disk.add("p", file_of(alloc, "mine")?)?;
-    disk.add_link("p", "site/.relmove-run/1")?;
-    same(
-        "both",
-        &end_of(&resume_on(&disk)),
-        &End::Stopped(Stage::Staging),
-    )?;
+    disk.add_hard_link("p", "site/.relmove-run/1")?;
+    ends_as("both", resume_on(&disk), End::Stopped(Stage::Staging))?;
     has_text(&disk, "site/a/x.md", "xx")?;
     has_text(&disk, "site/.relmove-run/1", "mine")
 }
@@ -124,21 +120,21 @@ fn keeps_two_files_that_have_two_names(rt: HostRuntime) -> Result<(), Fail> {
 #[test]
 fn keeps_a_file_at_the_new_path_of_one_with_two_names(rt: HostRuntime) -> Result<(), Fail> {
     let alloc = rt.alloc();
-    let disk = stopped_at(alloc, &cases::FILE_MOVES, Stage::Placing)?;
-    disk.add_link("site/.relmove-run/1", "o")?;
+    let disk = disk_stopped_at(alloc, &cases::FILE_MOVES, Stage::Placing)?;
+    disk.add_hard_link("site/.relmove-run/1", "o")?;
     disk.add("site/b/c/z.md", file_of(alloc, "mine")?)?;
-    same("back", &end_of(&undo_on(&disk)), &End::TakenBack)?;
+    ends_as("back", undo_on(&disk), End::TakenBack)?;
     has_text(&disk, "site/b/c/z.md", "mine")?;
     has_text(&disk, "site/a/x.md", "xx")
 }
 
 // Ends a run whose file has both names, and puts another file at the old path before a call. Whether that file stays.
 fn keeps_arrival(alloc: Global, first: u32, number: u32) -> Result<bool, Fail> {
-    let (_, disk) = run_and_fail(alloc, &cases::FILE_MOVES, first, Way::Killed)?;
+    let disk = disk_killed_at(alloc, &cases::FILE_MOVES, first)?;
     disk.add("site/a/n", file_of(alloc, "nn")?)?;
-    disk.add_link("site/a/x.md", "site/.relmove-run/1")?;
+    disk.add_hard_link("site/a/x.md", "site/.relmove-run/1")?;
     disk.replace_before(number, "site/a/x.md", file_of(alloc, "mine")?)?;
-    resume_on(&disk);
+    resume_on(&disk)?;
     if disk.calls() < number {
         return Ok(true);
     }

@@ -1,10 +1,11 @@
 //! The power is lost before each call of a run, or of what ends it, and each number of changes that weren't synced is on
 //! the disk. Then the run can be ended and taken back, and no byte is lost.
-use relmove_disk::{Disk, Way, disk_of};
+use relmove_disk::{Disk, Failing, disk_of};
 use relmove_run::{Ended, Stage};
 use relmove_run_cases::{
-    Case, End, Ending, calls_of, can_be_resumed, can_be_undone, cases, end_of, holds, is_done,
-    loses_nothing, moments_of, names_on, run, run_and_fail, same, stopped_at,
+    Case, End, Ending, calls_of, can_be_resumed, can_be_undone, cases, disk_failed_at,
+    disk_killed_at, disk_stopped_at, ends_as, holds, is_done, loses_nothing, moments_of, names_on,
+    run, same,
 };
 use std::alloc::Global;
 use std::io::ErrorKind;
@@ -12,7 +13,7 @@ use std::test::Fail;
 
 // The tree after the power was lost before a call, with so many changes on the disk.
 fn lose(alloc: Global, case: &Case, number: u32, kept: usize) -> Result<Disk, Fail> {
-    let (_, disk) = run_and_fail(alloc, case, number, Way::Killed)?;
+    let disk = disk_killed_at(alloc, case, number)?;
     disk.lose_power(kept)?;
     Ok(disk)
 }
@@ -28,8 +29,8 @@ fn survives(alloc: Global, case: &Case, number: u32, kept: usize) -> Result<(), 
 
 // Whether a run survives that the power is lost before a call.
 fn survives_at(alloc: Global, case: &Case, number: u32) -> Result<(), Fail> {
-    let (_, disk) = run_and_fail(alloc, case, number, Way::Killed)?;
-    for kept in 0..=disk.unsynced()? {
+    let disk = disk_killed_at(alloc, case, number)?;
+    for kept in 0..=disk.count_unsynced()? {
         survives(alloc, case, number, kept)?;
     }
     Ok(())
@@ -39,7 +40,7 @@ fn survives_at(alloc: Global, case: &Case, number: u32) -> Result<(), Fail> {
 fn stays_done(alloc: Global, case: &Case, kept: usize) -> Result<(), Fail> {
     let disk = disk_of(alloc, case.before)?;
     let ended = run(alloc, case, &disk)?;
-    same("done", &matches!(&ended, Ended::Done(_)), &true)?;
+    same("done", &matches!(&*ended, Ended::Done(_)), &true)?;
     disk.lose_power(kept)?;
     can_be_resumed(alloc, case, &disk)?;
     is_done(alloc, case, &disk, &[])
@@ -49,7 +50,7 @@ fn stays_done(alloc: Global, case: &Case, kept: usize) -> Result<(), Fail> {
 fn survives_each_loss(alloc: Global, case: &Case) -> Result<(), Fail> {
     let disk = disk_of(alloc, case.before)?;
     run(alloc, case, &disk)?;
-    for kept in 0..=disk.unsynced()? {
+    for kept in 0..=disk.count_unsynced()? {
         stays_done(alloc, case, kept)?;
     }
     for number in 1..=disk.calls() {
@@ -100,9 +101,9 @@ fn a_file_moves_into_a_directory_that_moves(rt: HostRuntime) -> Result<(), Fail>
 
 // A call of a run fails, and the power is lost after the run ended or stopped.
 fn survives_after_fault(alloc: Global, case: &Case, number: u32) -> Result<(), Fail> {
-    let (_, disk) = run_and_fail(alloc, case, number, Way::Refused)?;
-    for kept in 0..=disk.unsynced()? {
-        let (_, disk) = run_and_fail(alloc, case, number, Way::Refused)?;
+    let disk = disk_failed_at(alloc, case, number, Failing::Refused)?;
+    for kept in 0..=disk.count_unsynced()? {
+        let disk = disk_failed_at(alloc, case, number, Failing::Refused)?;
         disk.lose_power(kept)?;
         loses_nothing(alloc, case, &disk)?;
         can_be_undone(alloc, case, &disk)?;
@@ -130,18 +131,18 @@ struct Loss {
 
 // The tree when the power is lost, and whether what ends the run has so many calls.
 fn disk_at(alloc: Global, case: &Case, loss: Loss) -> Result<(Disk, bool), Fail> {
-    let (_, disk) = run_and_fail(alloc, case, loss.first, Way::Killed)?;
-    disk.fail_at(loss.second, Way::Killed);
-    loss.ending.on(&disk);
+    let disk = disk_killed_at(alloc, case, loss.first)?;
+    disk.fail_at(loss.second, Failing::Killed);
+    loss.ending.on(&disk)?;
     let is_within = disk.calls() >= loss.second;
-    disk.fail_at(0, Way::Killed);
+    disk.fail_at(0, Failing::Killed);
     Ok((disk, is_within))
 }
 
 // Whether a run survives that the power is lost while it is ended, with each number of changes on the disk.
 fn survives_while_it_ends(alloc: Global, case: &Case, loss: Loss) -> Result<(), Fail> {
     let (disk, _) = disk_at(alloc, case, loss)?;
-    for kept in 0..=disk.unsynced()? {
+    for kept in 0..=disk.count_unsynced()? {
         let (disk, _) = disk_at(alloc, case, loss)?;
         disk.lose_power(kept)?;
         loses_nothing(alloc, case, &disk)?;
@@ -205,7 +206,7 @@ fn a_file_that_moved_into_a_directory_comes_back(rt: HostRuntime) -> Result<(), 
 // A file system may lose what is in a directory that wasn't synced itself.
 #[test]
 fn a_new_directory_is_synced_before_anything_is_placed(rt: HostRuntime) -> Result<(), Fail> {
-    let disk = stopped_at(rt.alloc(), &cases::FILE_MOVES, Stage::Placing)?;
+    let disk = disk_stopped_at(rt.alloc(), &cases::FILE_MOVES, Stage::Placing)?;
     for path in ["site/b", "site/b/c"] {
         same(path, &disk.is_synced(path)?, &true)?;
     }
@@ -222,14 +223,18 @@ const NO_SYNCS: [ErrorKind; 6] = [
     ErrorKind::Unsupported,
 ];
 
+// Whether a run goes on where the system says this of each directory.
+fn goes_on_without_syncs(alloc: Global, case: &Case, why: ErrorKind) -> Result<(), Fail> {
+    let disk = disk_of(alloc, case.before)?;
+    disk.refuse_directory_syncs(why);
+    ends_as("done", run(alloc, case, &disk), End::Done)?;
+    holds(alloc, "done", &disk, case.after)
+}
+
 #[test]
 fn goes_on_where_no_directory_can_be_synced(rt: HostRuntime) -> Result<(), Fail> {
-    let (alloc, case) = (rt.alloc(), &cases::FILE_MOVES);
-    for why in &NO_SYNCS {
-        let disk = disk_of(alloc, case.before)?;
-        disk.refuse_directory_syncs(*why);
-        same("done", &end_of(&run(alloc, case, &disk)?), &End::Done)?;
-        holds(alloc, "done", &disk, case.after)?;
+    for why in NO_SYNCS {
+        goes_on_without_syncs(rt.alloc(), &cases::FILE_MOVES, why)?;
     }
     Ok(())
 }

@@ -1,6 +1,6 @@
 //! What the end of a run, or its undoing, is said to change, from each stage of its journal.
 use relmove_disk::disk_of;
-use relmove_run::{Change, Fault, Stage, StoppedRun, Trust, Way};
+use relmove_run::{Change, Direction, RunFault, Stage, StoppedRun, Trust};
 use relmove_run_cases::{Row, lock, put_journal, same};
 use std::alloc::Global;
 use std::test::Fail;
@@ -45,28 +45,33 @@ fn lines_of(alloc: Global, changes: &[Change]) -> Result<String, Fail> {
 }
 
 // What is said to change, a line for each change, or why nothing is.
-fn changes_at(alloc: Global, stage: Stage, way: Way) -> Result<String, Fail> {
+fn changes_at(alloc: Global, stage: Stage, direction: Direction) -> Result<String, Fail> {
     let disk = disk_of(alloc, &[])?;
     put_journal(alloc, &disk, stage, &WORK)?;
     let before = disk.listing()?;
     let mut locked = lock(&disk)?;
     let run = StoppedRun::read(&mut locked, Trust::AnyFolder)?;
-    let said = run.changes(alloc, way);
+    let said = run.changes(alloc, direction);
     same("nothing changes", &disk.listing()?, &before)?;
     match &said {
         Ok(changes) => lines_of(alloc, changes),
-        Err(Fault::TooLate) => Ok(String::from_str(alloc, "too late")?),
+        Err(RunFault::TooLate) => Ok(String::from_str(alloc, "too late")?),
         Err(_) => Ok(String::new(alloc)),
     }
 }
 
 // Whether these parts are said to change.
-fn changes(alloc: Global, stage: Stage, way: Way, parts: &[&'static str]) -> Result<(), Fail> {
+fn changes(
+    alloc: Global,
+    stage: Stage,
+    direction: Direction,
+    parts: &[&'static str],
+) -> Result<(), Fail> {
     let mut expected = String::new(alloc);
     for part in parts {
         expected.push_str(part)?;
     }
-    same("changes", &changes_at(alloc, stage, way)?, &expected)
+    same("changes", &changes_at(alloc, stage, direction)?, &expected)
 }
 
 const BY_RESUME: [(Stage, &[&'static str]); 9] = [
@@ -84,7 +89,7 @@ const BY_RESUME: [(Stage, &[&'static str]); 9] = [
 #[test]
 fn says_what_resume_changes(rt: HostRuntime) -> Result<(), Fail> {
     for (stage, parts) in &BY_RESUME {
-        changes(rt.alloc(), *stage, Way::Resume, parts)?;
+        changes(rt.alloc(), *stage, Direction::Resume, parts)?;
     }
     Ok(())
 }
@@ -102,7 +107,7 @@ const BY_UNDO: [(Stage, &[&'static str]); 7] = [
 #[test]
 fn says_what_undo_changes(rt: HostRuntime) -> Result<(), Fail> {
     for (stage, parts) in &BY_UNDO {
-        changes(rt.alloc(), *stage, Way::Undo, parts)?;
+        changes(rt.alloc(), *stage, Direction::Undo, parts)?;
     }
     Ok(())
 }

@@ -1,9 +1,8 @@
 //! Files in directories that are in one another: a run asks for each directory about as often as there are files, and not
 //! for each directory above each file.
-use relmove_actions::{Rename, Steps};
+use relmove_actions::{Actions, Rename};
 use relmove_disk::{Content, Disk, disk_of, file_of};
-use relmove_run::carry_out;
-use relmove_run_cases::{End, end_of, lock, same};
+use relmove_run_cases::{End, carry_out_on, ends_as, same};
 use std::alloc::{AllocError, Global};
 use std::test::Fail;
 
@@ -30,13 +29,13 @@ fn deep_disk(alloc: Global, depth: u32) -> Result<Disk, Fail> {
     Ok(disk)
 }
 
-// Steps that rename each of the files.
-fn deep_steps(alloc: Global, depth: u32) -> Result<Steps, AllocError> {
-    let mut steps = Steps {
+// Actions that rename each of the files.
+fn deep_actions(alloc: Global, depth: u32) -> Result<Actions, AllocError> {
+    let mut actions = Actions {
         texts: Vec::new(alloc),
-        apart: Vec::new(alloc),
+        staged: Vec::new(alloc),
         made: Vec::new(alloc),
-        together: Vec::new(alloc),
+        placed: Vec::new(alloc),
         removed: Vec::new(alloc),
         emptied: Vec::new(alloc),
     };
@@ -44,24 +43,27 @@ fn deep_steps(alloc: Global, depth: u32) -> Result<Steps, AllocError> {
         let directory = directory_at(alloc, at)?;
         let directory = directory.as_str();
         let name = format!(in alloc; ".relmove-{at}")?;
-        steps.apart.push(Rename {
+        actions.staged.push(Rename {
             from: format!(in alloc; "{directory}/x")?,
             to: String::from_str(alloc, name.as_str())?,
         })?;
-        steps.together.push(Rename {
+        actions.placed.push(Rename {
             from: name,
             to: format!(in alloc; "{directory}/y")?,
         })?;
     }
-    Ok(steps)
+    Ok(actions)
 }
 
 // How often a run asks for the topmost directory, if the run renames the files at each depth up to this one.
 fn questions_at(alloc: Global, depth: u32) -> Result<u32, Fail> {
     let disk = deep_disk(alloc, depth)?;
     disk.count_questions("site/d")?;
-    let ended = carry_out(lock(&disk)?, deep_steps(alloc, depth)?, &[], &[]);
-    same("done", &end_of(&ended), &End::Done)?;
+    ends_as(
+        "done",
+        carry_out_on(&disk, deep_actions(alloc, depth)?),
+        End::Done,
+    )?;
     Ok(disk.questions())
 }
 

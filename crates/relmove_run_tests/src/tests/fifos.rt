@@ -1,7 +1,7 @@
 //! A FIFO where a directory is to be: no call opens it, and so none waits.
 use relmove_disk::{Content, disk_of};
-use relmove_run::{Stage, Trust, resume};
-use relmove_run_cases::{End, Row, end_of, lock, put_journal, same};
+use relmove_run::{Stage, Trust};
+use relmove_run_cases::{End, Row, ends_as, put_journal, resume_trusting};
 use std::alloc::Global;
 use std::test::Fail;
 
@@ -25,8 +25,7 @@ fn ends(alloc: Global, stage: Stage, expected: End) -> Result<(), Fail> {
     let disk = disk_of(alloc, &places)?;
     disk.add("site/f", Content::Other)?;
     put_journal(alloc, &disk, stage, &WORK)?;
-    let ended = resume(lock(&disk)?, Trust::AnyFolder);
-    same("an end", &end_of(&ended), &expected)
+    ends_as("an end", resume_trusting(&disk, Trust::AnyFolder), expected)
 }
 
 const ENDS: [(Stage, End); 6] = [

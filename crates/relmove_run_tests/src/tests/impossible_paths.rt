@@ -1,9 +1,10 @@
 //! Paths that the system can't have: a run is refused before it changes anything, and a run that stopped goes back.
-use relmove_actions::{Rename, Steps};
+use relmove_actions::{Actions, Rename};
 use relmove_disk::{Disk, DiskStore, disk_of};
-use relmove_run::{Ended, Fault, Stage, Trust, carry_out, join, need_possible, undo};
+use relmove_run::{Ended, RunFault, Stage, Trust, join, need_possible};
 use relmove_run_cases::{
-    End, Row, cases, end_of, gives_reason, holds, lock, put_journal, run, same,
+    End, Row, carry_out_on, cases, ends_as, gives_reason, holds, put_journal, run, same,
+    undo_trusting,
 };
 use std::alloc::{AllocError, Global};
 use std::test::Fail;
@@ -26,69 +27,75 @@ fn path_of(alloc: Global, length: usize) -> Result<String, AllocError> {
     Ok(path)
 }
 
-// Steps that do nothing.
-fn no_steps(alloc: Global) -> Steps {
-    Steps {
+// Actions that do nothing.
+fn no_actions(alloc: Global) -> Actions {
+    Actions {
         texts: Vec::new(alloc),
-        apart: Vec::new(alloc),
+        staged: Vec::new(alloc),
         made: Vec::new(alloc),
-        together: Vec::new(alloc),
+        placed: Vec::new(alloc),
         removed: Vec::new(alloc),
         emptied: Vec::new(alloc),
     }
 }
 
-// Steps that give a file a staging name.
-fn steps_from(alloc: Global, path: &str) -> Result<Steps, AllocError> {
-    let mut steps = no_steps(alloc);
-    steps.apart.push(Rename {
+// Actions that give a file a staging name.
+fn actions_from(alloc: Global, path: &str) -> Result<Actions, AllocError> {
+    let mut actions = no_actions(alloc);
+    actions.staged.push(Rename {
         from: String::from_str(alloc, path)?,
         to: String::from_str(alloc, ".relmove-1")?,
     })?;
-    Ok(steps)
+    Ok(actions)
 }
 
-// Steps that give a file a new path.
-fn steps_to(alloc: Global, path: &str) -> Result<Steps, AllocError> {
-    let mut steps = steps_from(alloc, "a")?;
-    steps.together.push(Rename {
+// Actions that give a file a new path.
+fn actions_to(alloc: Global, path: &str) -> Result<Actions, AllocError> {
+    let mut actions = actions_from(alloc, "a")?;
+    actions.placed.push(Rename {
         from: String::from_str(alloc, ".relmove-1")?,
         to: String::from_str(alloc, path)?,
     })?;
-    Ok(steps)
+    Ok(actions)
 }
 
-// Steps that make a directory.
-fn steps_with_directory(alloc: Global, path: &str) -> Result<Steps, AllocError> {
-    let mut steps = no_steps(alloc);
-    steps.made.push(String::from_str(alloc, path)?)?;
-    Ok(steps)
+// Actions that make a directory.
+fn actions_with_directory(alloc: Global, path: &str) -> Result<Actions, AllocError> {
+    let mut actions = no_actions(alloc);
+    actions.made.push(String::from_str(alloc, path)?)?;
+    Ok(actions)
 }
 
-// What is said of steps, or an empty text.
-fn words_of(alloc: Global, disk: &Disk, steps: &Steps) -> Result<String, Fail> {
+// What is said of actions, or an empty text.
+fn words_of(alloc: Global, disk: &Disk, actions: &Actions) -> Result<String, Fail> {
     let mut store = DiskStore::new(disk, "site")?;
-    match need_possible(&mut store, steps) {
+    match need_possible(&mut store, actions) {
         Ok(()) => Ok(String::new(alloc)),
         Err(fault) => Ok(format!(in alloc; "{fault}")?),
     }
 }
 
-// Whether this is said of steps.
-fn says(alloc: Global, case: &str, disk: &Disk, steps: &Steps, words: &str) -> Result<(), Fail> {
-    same(case, &words_of(alloc, disk, steps)?.as_str(), &words)
+// Whether this is said of actions.
+fn says(
+    alloc: Global,
+    case: &str,
+    disk: &Disk,
+    actions: &Actions,
+    words: &str,
+) -> Result<(), Fail> {
+    same(case, &words_of(alloc, disk, actions)?.as_str(), &words)
 }
 
-// Whether a path of these steps is too long.
-fn has_long_path(alloc: Global, path: &str, steps: &Steps) -> Result<(), Fail> {
+// Whether a path of these actions is too long.
+fn has_long_path(alloc: Global, path: &str, actions: &Actions) -> Result<(), Fail> {
     let disk = disk_of(alloc, cases::SWAP.before)?;
     let words = format!(in alloc; "{path} is too long, or a name in it is")?;
-    says(alloc, "a long path", &disk, steps, words.as_str())
+    says(alloc, "a long path", &disk, actions, words.as_str())
 }
 
 // Whether a new path is too long.
 fn is_too_long(alloc: Global, path: &str) -> Result<(), Fail> {
-    has_long_path(alloc, path, &steps_to(alloc, path)?)
+    has_long_path(alloc, path, &actions_to(alloc, path)?)
 }
 
 #[test]
@@ -109,12 +116,12 @@ fn asks_for_a_second_name_in_a_new_directory(rt: HostRuntime) -> Result<(), Fail
     let alloc = rt.alloc();
     let name = name_of(alloc, 256)?;
     let path = join(alloc, "x", name.as_str())?;
-    let mut steps = steps_to(alloc, "x/y")?;
-    steps.together.push(Rename {
+    let mut actions = actions_to(alloc, "x/y")?;
+    actions.placed.push(Rename {
         from: String::from_str(alloc, ".relmove-2")?,
         to: String::from_str(alloc, path.as_str())?,
     })?;
-    has_long_path(alloc, path.as_str(), &steps)
+    has_long_path(alloc, path.as_str(), &actions)
 }
 
 // A path below ROOT has five bytes more: `site/`.
@@ -128,15 +135,15 @@ fn asks_for_paths_that_are_too_long(rt: HostRuntime) -> Result<(), Fail> {
         alloc,
         "a path that fits",
         &disk,
-        &steps_to(alloc, longest)?,
+        &actions_to(alloc, longest)?,
         "",
     )?;
-    let steps = steps_with_directory(alloc, longest)?;
-    says(alloc, "a directory that fits", &disk, &steps, "")?;
+    let actions = actions_with_directory(alloc, longest)?;
+    says(alloc, "a directory that fits", &disk, &actions, "")?;
     let long = path_of(alloc, 4091)?;
     let long = long.as_str();
     is_too_long(alloc, long)?;
-    has_long_path(alloc, long, &steps_with_directory(alloc, long)?)
+    has_long_path(alloc, long, &actions_with_directory(alloc, long)?)
 }
 
 #[test]
@@ -148,7 +155,7 @@ fn asks_for_directories_that_cannot_be_searched(rt: HostRuntime) -> Result<(), F
         ("d/x", "can't look up d/x: permission denied"),
         ("d/e/x", "can't look up d/e: permission denied"),
     ] {
-        says(alloc, path, &disk, &steps_to(alloc, path)?, words)?;
+        says(alloc, path, &disk, &actions_to(alloc, path)?, words)?;
     }
     Ok(())
 }
@@ -163,15 +170,15 @@ fn asks_for_other_devices(rt: HostRuntime) -> Result<(), Fail> {
         alloc,
         "a new path",
         &disk,
-        &steps_to(alloc, "d/e/x")?,
+        &actions_to(alloc, "d/e/x")?,
         words,
     )?;
     for from in ["d/e", "d/e/a"] {
-        says(alloc, from, &disk, &steps_from(alloc, from)?, words)?;
+        says(alloc, from, &disk, &actions_from(alloc, from)?, words)?;
     }
     // The device of a file isn't asked for.
     disk.set_device("site/a", 2)?;
-    says(alloc, "an old path", &disk, &steps_to(alloc, "d/x")?, "")
+    says(alloc, "an old path", &disk, &actions_to(alloc, "d/x")?, "")
 }
 
 #[test]
@@ -179,21 +186,24 @@ fn refuses_a_run_that_is_impossible(rt: HostRuntime) -> Result<(), Fail> {
     let alloc = rt.alloc();
     let disk = disk_of(alloc, cases::SWAP.before)?;
     let before = disk.listing()?;
-    let steps = steps_to(alloc, name_of(alloc, 256)?.as_str())?;
-    let ended = carry_out(lock(&disk)?, steps, &[], &[]);
-    let is_long = matches!(&ended, Ended::Refused(Fault::TooLong(_)));
+    let actions = actions_to(alloc, name_of(alloc, 256)?.as_str())?;
+    let ended = carry_out_on(&disk, actions)?;
+    let is_long = matches!(&*ended, Ended::Refused(RunFault::TooLong(_)));
     same("too long", &is_long, &true)?;
     same("nothing changes", &disk.listing()?, &before)
 }
 
-// A run does only the steps of a plan.
+// A run does only the actions of a plan.
 #[test]
-fn refuses_steps_that_no_plan_makes(rt: HostRuntime) -> Result<(), Fail> {
+fn refuses_actions_that_no_plan_makes(rt: HostRuntime) -> Result<(), Fail> {
     let alloc = rt.alloc();
     let disk = disk_of(alloc, cases::SWAP.before)?;
     let before = disk.listing()?;
-    let ended = carry_out(lock(&disk)?, steps_to(alloc, ".git/x")?, &[], &[]);
-    gives_reason(alloc, &ended, "NotAPlan")?;
+    gives_reason(
+        alloc,
+        carry_out_on(&disk, actions_to(alloc, ".git/x")?),
+        "NotAPlan",
+    )?;
     same("nothing changes", &disk.listing()?, &before)
 }
 
@@ -202,7 +212,7 @@ fn names_a_root_that_is_not_there(rt: HostRuntime) -> Result<(), Fail> {
     let alloc = rt.alloc();
     let disk = disk_of(alloc, cases::SWAP.before)?;
     let mut store = DiskStore::new(&disk, "gone")?;
-    let asked = need_possible(&mut store, &no_steps(alloc));
+    let asked = need_possible(&mut store, &no_actions(alloc));
     let found = format!(in alloc; "{asked:?}")?;
     same("a root", &found.as_str(), &"Err(Missing(\"gone\"))")
 }
@@ -213,8 +223,7 @@ fn moves_files_of_a_directory_that_cannot_be_listed(rt: HostRuntime) -> Result<(
     let alloc = rt.alloc();
     let disk = disk_of(alloc, cases::FILE_MOVES.before)?;
     disk.set_mode("site/a", 0o300)?;
-    let ended = run(alloc, &cases::FILE_MOVES, &disk)?;
-    same("done", &end_of(&ended), &End::Done)?;
+    ends_as("done", run(alloc, &cases::FILE_MOVES, &disk), End::Done)?;
     holds(alloc, "done", &disk, cases::FILE_MOVES.after)
 }
 
@@ -231,8 +240,11 @@ fn goes_back_from(alloc: Global, directory: &str, makes: bool) -> Result<(), Fai
     } else {
         put_journal(alloc, &disk, Stage::Placing, &[staged, placed])?;
     }
-    let ended = undo(lock(&disk)?, Trust::AnyFolder);
-    same(directory, &end_of(&ended), &End::TakenBack)?;
+    ends_as(
+        directory,
+        undo_trusting(&disk, Trust::AnyFolder),
+        End::TakenBack,
+    )?;
     holds(alloc, directory, &disk, &[("a", Some("aa"))])
 }
 

@@ -1,9 +1,9 @@
 //! Owners and permissions of the files that a run makes.
-use relmove_disk::{Content, Disk, Way, disk_of, file_of};
+use relmove_disk::{Content, Disk, Failing, disk_of, file_of};
 use relmove_run::{Ended, Stage};
 use relmove_run_cases::{
-    End, calls_of, can_be_resumed, can_be_undone, cases, end_of, gives_reason, has_text, holds,
-    resume_on, run, same, stopped_at,
+    End, calls_of, can_be_resumed, can_be_undone, cases, disk_stopped_at, end_of, ends_as,
+    gives_reason, has_text, holds, resume_on, run, same,
 };
 use std::alloc::Global;
 use std::test::Fail;
@@ -20,8 +20,7 @@ fn gets_rights(
     disk.set_mode("site/a.md", mode)?;
     disk.set_owner("site/a.md", user, group)?;
     disk.allow_giving(may_give);
-    let ended = run(alloc, &cases::PAGE_CHANGES, &disk)?;
-    same("done", &end_of(&ended), &End::Done)?;
+    ends_as("done", run(alloc, &cases::PAGE_CHANGES, &disk), End::Done)?;
     same("rights", &disk.rights("site/a.md")?, &after)
 }
 
@@ -69,7 +68,7 @@ fn lets_nobody_read_a_text_without_its_group(rt: HostRuntime) -> Result<(), Fail
         disk.set_mode("site/a.md", 0o664)?;
         disk.set_owner("site/a.md", 1000, 8)?;
         disk.allow_giving(true);
-        disk.fail_at(number, Way::Killed);
+        disk.fail_at(number, Failing::Killed);
         run(alloc, case, &disk)?;
         is_private(&disk, 8)?;
     }
@@ -81,22 +80,22 @@ fn ends_without_permissions(alloc: Global, number: u32) -> Result<(), Fail> {
     let case = &cases::PAGE_CHANGES;
     let disk = disk_of(alloc, case.before)?;
     disk.set_mask(0o777);
-    disk.fail_at(number, Way::Killed);
+    disk.fail_at(number, Failing::Killed);
     let is_placed = matches!(
-        &run(alloc, case, &disk)?,
+        &*run(alloc, case, &disk)?,
         Ended::Stopped {
             stage: Stage::Placing | Stage::Cleaning,
             ..
         }
     );
-    disk.fail_at(0, Way::Killed);
-    let end = end_of(&resume_on(&disk));
+    disk.fail_at(0, Failing::Killed);
+    let end = end_of(&*resume_on(&disk)?);
     if is_placed {
         same("resumed", &end, &End::Done)?;
         same("rights", &disk.rights("site/a.md")?, &(0o644, 1000, 1000))?;
     }
     let is_left = disk.has("site/.relmove-journal")? || disk.has("site/.relmove")?;
-    same("own files", &is_left, &false)
+    same("run files", &is_left, &false)
 }
 
 #[test]
@@ -116,27 +115,26 @@ fn makes_directories(alloc: Global, mask: u32) -> Result<(), Fail> {
     let case = &cases::FILE_MOVES;
     let disk = disk_of(alloc, case.before)?;
     disk.set_mask(mask);
-    let ended = run(alloc, case, &disk)?;
-    same("done", &end_of(&ended), &End::Done)?;
+    ends_as("done", run(alloc, case, &disk), End::Done)?;
     for path in ["site/b", "site/b/c"] {
         let (mode, _, _) = disk.rights(path)?;
         same(path, &mode, &(0o755 & !mask | 0o700))?;
     }
     holds(alloc, "done", &disk, case.after)?;
     for number in 1..=disk.calls() {
-        can_be_undone(alloc, case, &killed_at(alloc, mask, number)?)?;
-        can_be_resumed(alloc, case, &killed_at(alloc, mask, number)?)?;
+        can_be_undone(alloc, case, &disk_killed_at(alloc, mask, number)?)?;
+        can_be_resumed(alloc, case, &disk_killed_at(alloc, mask, number)?)?;
     }
     Ok(())
 }
 
 // The tree after a run that was killed at a call, if new directories don't get some permissions.
-fn killed_at(alloc: Global, mask: u32, number: u32) -> Result<Disk, Fail> {
+fn disk_killed_at(alloc: Global, mask: u32, number: u32) -> Result<Disk, Fail> {
     let disk = disk_of(alloc, cases::FILE_MOVES.before)?;
     disk.set_mask(mask);
-    disk.fail_at(number, Way::Killed);
+    disk.fail_at(number, Failing::Killed);
     run(alloc, &cases::FILE_MOVES, &disk)?;
-    disk.fail_at(0, Way::Killed);
+    disk.fail_at(0, Failing::Killed);
     Ok(disk)
 }
 
@@ -152,16 +150,16 @@ fn makes_directories_for_their_owner(rt: HostRuntime) -> Result<(), Fail> {
 #[test]
 fn makes_no_directory_anew_that_is_in_use(rt: HostRuntime) -> Result<(), Fail> {
     let alloc = rt.alloc();
-    let disk = stopped_at(alloc, &cases::PAGE_CHANGES, Stage::Making)?;
+    let disk = disk_stopped_at(alloc, &cases::PAGE_CHANGES, Stage::Making)?;
     disk.add("site/y", Content::Directory)?;
     disk.add("site/y/n", file_of(alloc, "mine")?)?;
     disk.set_mode("site/y", 0o300)?;
-    same("done", &end_of(&resume_on(&disk)), &End::Done)?;
+    ends_as("done", resume_on(&disk), End::Done)?;
     has_text(&disk, "site/y/n", "mine")
 }
 
 // Puts another file with the same text, which everybody may change, in the place of a page before a call of a run.
-fn run_with_another_page(alloc: Global, number: u32) -> Result<(Ended, Disk), Fail> {
+fn run_with_another_page(alloc: Global, number: u32) -> Result<(Box<Ended>, Disk), Fail> {
     let case = &cases::PAGE_CHANGES;
     let disk = disk_of(alloc, case.before)?;
     disk.set_mode("site/a.md", 0o600)?;
@@ -191,6 +189,6 @@ fn takes_the_rights_of_the_file_that_was_read(rt: HostRuntime) -> Result<(), Fai
 #[test]
 fn refuses_another_file_at_the_path_of_a_page(rt: HostRuntime) -> Result<(), Fail> {
     let (ended, disk) = run_with_another_page(rt.alloc(), 1)?;
-    gives_reason(rt.alloc(), &ended, "Changed(\"a.md\")")?;
+    gives_reason(rt.alloc(), Ok(ended), "Changed(\"a.md\")")?;
     holds(rt.alloc(), "as before", &disk, cases::PAGE_CHANGES.before)
 }

@@ -1,6 +1,6 @@
 //! What a terminal obeys, or what isn't seen, is printed by its number.
 use crate::tests::same;
-use relmove_run::{Call, Change, Fault, Printable, Remark};
+use relmove_run::{Change, Printable, Remark, RunFault, SystemCall};
 use std::alloc::{AllocError, Global};
 use std::test::Fail;
 
@@ -61,30 +61,30 @@ fn other_path(alloc: Global) -> Result<String, AllocError> {
     String::from_str(alloc, "b\u{7}")
 }
 
-const CALLS: [(Call, &str); 14] = [
-    (Call::Ask, "can't look up a\\u{1b}: why"),
-    (Call::Lock, "can't lock a\\u{1b}: why"),
-    (Call::List, "can't list a\\u{1b}: why"),
-    (Call::Read, "can't read a\\u{1b}: why"),
-    (Call::ReadLink, "can't read a\\u{1b}: why"),
-    (Call::Create, "can't make a\\u{1b}: why"),
-    (Call::Write, "can't write a\\u{1b}: why"),
-    (Call::Sync, "can't sync a\\u{1b}: why"),
+const CALLS: [(SystemCall, &str); 14] = [
+    (SystemCall::Ask, "can't look up a\\u{1b}: why"),
+    (SystemCall::Lock, "can't lock a\\u{1b}: why"),
+    (SystemCall::List, "can't list a\\u{1b}: why"),
+    (SystemCall::Read, "can't read a\\u{1b}: why"),
+    (SystemCall::ReadSymlink, "can't read a\\u{1b}: why"),
+    (SystemCall::Create, "can't make a\\u{1b}: why"),
+    (SystemCall::Write, "can't write a\\u{1b}: why"),
+    (SystemCall::Sync, "can't sync a\\u{1b}: why"),
     (
-        Call::SetPermissions,
+        SystemCall::SetPermissions,
         "can't set the permissions of a\\u{1b}: why",
     ),
-    (Call::Rename, "can't rename a\\u{1b}: why"),
-    (Call::Link, "can't link a\\u{1b}: why"),
-    (Call::MakeDirectory, "can't make a\\u{1b}: why"),
-    (Call::RemoveFile, "can't remove a\\u{1b}: why"),
-    (Call::RemoveDirectory, "can't remove a\\u{1b}: why"),
+    (SystemCall::Rename, "can't rename a\\u{1b}: why"),
+    (SystemCall::HardLink, "can't link a\\u{1b}: why"),
+    (SystemCall::MakeDirectory, "can't make a\\u{1b}: why"),
+    (SystemCall::RemoveFile, "can't remove a\\u{1b}: why"),
+    (SystemCall::RemoveDirectory, "can't remove a\\u{1b}: why"),
 ];
 
 // Whether a call that failed at a path is named so.
-fn names_call(alloc: Global, call: Call, path: String, words: &str) -> Result<(), Fail> {
+fn names_call(alloc: Global, call: SystemCall, path: String, words: &str) -> Result<(), Fail> {
     let why = String::from_str(alloc, "why")?;
-    let fault = Fault::System { call, path, why };
+    let fault = RunFault::System { call, path, why };
     same("a call", &fault.to_string(alloc)?.as_str(), &words)
 }
 
@@ -96,26 +96,26 @@ fn names_each_call(rt: HostRuntime) -> Result<(), Fail> {
     }
     names_call(
         alloc,
-        Call::Lock,
+        SystemCall::Lock,
         String::new(alloc),
         "can't lock ROOT: why",
     )
 }
 
 // A fault of each kind that has a path.
-fn fault_at(alloc: Global, kind: usize) -> Result<Fault, AllocError> {
+fn fault_at(alloc: Global, kind: usize) -> Result<RunFault, AllocError> {
     let path = path(alloc)?;
     Ok(match kind {
-        0 => Fault::Missing(path),
-        1 => Fault::OtherText(path),
-        2 => Fault::NotADirectory(path),
-        3 => Fault::TooLong(path),
-        4 => Fault::OtherDevice(path),
-        5 => Fault::Changed(path),
-        6 => Fault::JournalNear(path),
-        7 => Fault::OwnName(path),
-        8 => Fault::Exchanged(path),
-        _ => Fault::LeftOver(path),
+        0 => RunFault::Missing(path),
+        1 => RunFault::OtherText(path),
+        2 => RunFault::NotADirectory(path),
+        3 => RunFault::TooLong(path),
+        4 => RunFault::OtherDevice(path),
+        5 => RunFault::Changed(path),
+        6 => RunFault::JournalNear(path),
+        7 => RunFault::ReservedName(path),
+        8 => RunFault::Exchanged(path),
+        _ => RunFault::LeftOver(path),
     })
 }
 
@@ -142,13 +142,13 @@ fn names_the_path_of_a_fault(rt: HostRuntime) -> Result<(), Fail> {
 }
 
 // A fault of each kind that has no path and that no other test prints.
-fn fault_alone(kind: usize) -> Fault {
+fn fault_alone(kind: usize) -> RunFault {
     match kind {
-        0 => Fault::OutOfMemory,
-        1 => Fault::AtWork,
-        2 => Fault::LinkedJournal,
-        3 => Fault::OthersJournal(7),
-        _ => Fault::NotAPlan,
+        0 => RunFault::OutOfMemory,
+        1 => RunFault::AtWork,
+        2 => RunFault::LinkedJournal,
+        3 => RunFault::OthersJournal(7),
+        _ => RunFault::NotAPlan,
     }
 }
 
@@ -176,7 +176,7 @@ fn says_a_fault_without_a_path(rt: HostRuntime) -> Result<(), Fail> {
 fn prints_both_paths_of_a_fault(rt: HostRuntime) -> Result<(), Fail> {
     let alloc = rt.alloc();
     let (from, to) = (path(alloc)?, other_path(alloc)?);
-    let text = Fault::Both { from, to }.to_string(alloc)?;
+    let text = RunFault::Both { from, to }.to_string(alloc)?;
     let words =
         "can't rename a\\u{1b} to b\\u{7}: something is at both paths. Rename or remove the one that isn't the run's";
     same("both", &text.as_str(), &words)

@@ -5,6 +5,7 @@ use crate::tests::{holds, same};
 use relmove_disk::{Content, Disk, DiskMachine, Place, disk_of};
 use relmove_lib::{Status, answer};
 use std::alloc::Global;
+use std::io;
 use std::test::Fail;
 
 // A call in a folder with a journal.
@@ -438,7 +439,13 @@ fn does_what_it_prints(alloc: Global, number: u32) -> Result<bool, Fail> {
     disk.replace_before(number, "site/.relmove", Content::File(other))?;
     let (mut out, mut errors) = (Vec::new(alloc), Vec::new(alloc));
     let words = ["--resume", "--trust-journal", "--write", "site"];
-    answer(&DiskMachine(&disk), &words, &mut out, &mut errors);
+    answer(
+        &DiskMachine(&disk),
+        &words,
+        &mut io::empty(),
+        &mut out,
+        &mut errors,
+    );
     let printed = String::from_utf8(out)?;
     let is_printed = printed.as_str().contains("rename c.md");
     same("the file moved", &!disk.has("site/c.md")?, &is_printed)?;
@@ -464,7 +471,13 @@ fn changes_nothing(alloc: Global, output: &mut Output) -> Result<(), Fail> {
     let before = disk.listing()?;
     let words = ["--resume", "--trust-journal", "--write", "site"];
     let mut errors = Vec::new(alloc);
-    let status = answer(&DiskMachine(&disk), &words, output, &mut errors);
+    let status = answer(
+        &DiskMachine(&disk),
+        &words,
+        &mut io::empty(),
+        output,
+        &mut errors,
+    );
     same("a failing output", &status, &Status::Refused)?;
     same("a failing output", &disk.listing()?, &before)
 }

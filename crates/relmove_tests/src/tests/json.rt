@@ -1,9 +1,10 @@
 //! Objects of JSON in place of words.
 use crate::tests::moving::{self, MOVED_SITE, Row, SITE, does};
 use crate::tests::same;
-use relmove_disk::{DiskMachine, Place, Way, disk_of};
+use relmove_disk::{DiskMachine, Failing, Place, disk_of};
 use relmove_lib::{Status, answer};
 use std::alloc::Global;
+use std::io;
 use std::test::Fail;
 
 const CHANGED: &str =
@@ -47,9 +48,15 @@ fn prints_remark(
     number: u32,
 ) -> Result<bool, Fail> {
     let disk = disk_of(alloc, SITE)?;
-    disk.fail_at(number, Way::Refused);
+    disk.fail_at(number, Failing::Refused);
     let (mut out, mut errors) = (Vec::new(alloc), Vec::new(alloc));
-    let status = answer(&DiskMachine(&disk), words, &mut out, &mut errors);
+    let status = answer(
+        &DiskMachine(&disk),
+        words,
+        &mut io::empty(),
+        &mut out,
+        &mut errors,
+    );
     if status != Status::LinksLeft {
         return Ok(false);
     }
@@ -64,7 +71,13 @@ fn prints_remark(
 fn prints_left(alloc: Global, words: &[&str], printed: (&str, &str)) -> Result<(), Fail> {
     let disk = disk_of(alloc, SITE)?;
     let (mut out, mut errors) = (Vec::new(alloc), Vec::new(alloc));
-    answer(&DiskMachine(&disk), words, &mut out, &mut errors);
+    answer(
+        &DiskMachine(&disk),
+        words,
+        &mut io::empty(),
+        &mut out,
+        &mut errors,
+    );
     // The directory is removed near the end.
     for later in 0..disk.calls() {
         if prints_remark(alloc, words, printed, disk.calls().saturating_sub(later))? {
@@ -92,7 +105,13 @@ fn prints_what_is_gone(alloc: Global, number: u32) -> Result<bool, Fail> {
     let disk = disk_of(alloc, SITE)?;
     disk.remove_before(number, moving::STAGED)?;
     let (mut out, mut errors) = (Vec::new(alloc), Vec::new(alloc));
-    let status = answer(&DiskMachine(&disk), WRITE, &mut out, &mut errors);
+    let status = answer(
+        &DiskMachine(&disk),
+        WRITE,
+        &mut io::empty(),
+        &mut out,
+        &mut errors,
+    );
     if status != Status::LinksLeft {
         return Ok(false);
     }
@@ -108,7 +127,13 @@ fn prints_what_is_gone(alloc: Global, number: u32) -> Result<bool, Fail> {
 fn prints_what_a_run_leaves_that_is_taken_back(rt: HostRuntime) -> Result<(), Fail> {
     let disk = disk_of(rt.alloc(), SITE)?;
     let (mut out, mut errors) = (Vec::new(rt.alloc()), Vec::new(rt.alloc()));
-    answer(&DiskMachine(&disk), WRITE, &mut out, &mut errors);
+    answer(
+        &DiskMachine(&disk),
+        WRITE,
+        &mut io::empty(),
+        &mut out,
+        &mut errors,
+    );
     for number in 1..=disk.calls() {
         if prints_what_is_gone(rt.alloc(), number)? {
             return Ok(());
@@ -167,9 +192,15 @@ fn prints_dead_links(rt: HostRuntime) -> Result<(), Fail> {
 // Makes a call of the run fail. Says the status, after it saw that standard error says why, and how to go on after a stop.
 fn says_why(alloc: Global, number: u32) -> Result<Status, Fail> {
     let disk = disk_of(alloc, SITE)?;
-    disk.fail_at(number, Way::Refused);
+    disk.fail_at(number, Failing::Refused);
     let (mut out, mut errors) = (Vec::new(alloc), Vec::new(alloc));
-    let status = answer(&DiskMachine(&disk), WRITE, &mut out, &mut errors);
+    let status = answer(
+        &DiskMachine(&disk),
+        WRITE,
+        &mut io::empty(),
+        &mut out,
+        &mut errors,
+    );
     let errors = String::from_utf8(errors)?;
     let errors = errors.as_str();
     let has_reason = match status {
@@ -185,7 +216,13 @@ fn says_why(alloc: Global, number: u32) -> Result<Status, Fail> {
 fn prints_in_words_why_a_run_failed(rt: HostRuntime) -> Result<(), Fail> {
     let disk = disk_of(rt.alloc(), SITE)?;
     let (mut out, mut errors) = (Vec::new(rt.alloc()), Vec::new(rt.alloc()));
-    answer(&DiskMachine(&disk), WRITE, &mut out, &mut errors);
+    answer(
+        &DiskMachine(&disk),
+        WRITE,
+        &mut io::empty(),
+        &mut out,
+        &mut errors,
+    );
     let mut has_stopped = false;
     for number in 1..=disk.calls() {
         if says_why(rt.alloc(), number)? == Status::Stopped {
@@ -199,10 +236,16 @@ fn prints_in_words_why_a_run_failed(rt: HostRuntime) -> Result<(), Fail> {
 // the second one stops the run.
 fn prints_remark_of_a_stop(alloc: Global, first: u32, second: u32) -> Result<bool, Fail> {
     let disk = disk_of(alloc, SITE)?;
-    disk.fail_at(first, Way::Refused);
+    disk.fail_at(first, Failing::Refused);
     disk.refuse_at(second);
     let (mut out, mut errors) = (Vec::new(alloc), Vec::new(alloc));
-    let status = answer(&DiskMachine(&disk), WRITE, &mut out, &mut errors);
+    let status = answer(
+        &DiskMachine(&disk),
+        WRITE,
+        &mut io::empty(),
+        &mut out,
+        &mut errors,
+    );
     if status != Status::Stopped {
         return Ok(false);
     }
@@ -216,7 +259,13 @@ fn prints_remark_of_a_stop(alloc: Global, first: u32, second: u32) -> Result<boo
 fn leaving_call(alloc: Global) -> Result<u32, Fail> {
     let disk = disk_of(alloc, SITE)?;
     let (mut out, mut errors) = (Vec::new(alloc), Vec::new(alloc));
-    answer(&DiskMachine(&disk), WRITE, &mut out, &mut errors);
+    answer(
+        &DiskMachine(&disk),
+        WRITE,
+        &mut io::empty(),
+        &mut out,
+        &mut errors,
+    );
     for later in 0..disk.calls() {
         let number = disk.calls().saturating_sub(later);
         if prints_remark(alloc, WRITE, (CHANGED, REMARK), number)? {

@@ -5,6 +5,7 @@ use crate::tests::{add_symlink, holds, same};
 use relmove_disk::{Content, Disk, DiskMachine, Place, disk_of};
 use relmove_lib::{Status, answer};
 use std::alloc::Global;
+use std::io;
 use std::test::Fail;
 
 #[test]
@@ -278,7 +279,13 @@ fn follows_links_into_each_directory_that_cannot_be_listed(rt: HostRuntime) -> R
     disk.set_mode("site/e", 0o300)?;
     let (mut out, mut errors) = (Vec::new(rt.alloc()), Vec::new(rt.alloc()));
     let words = ["--check", "site"];
-    let status = answer(&DiskMachine(&disk), &words, &mut out, &mut errors);
+    let status = answer(
+        &DiskMachine(&disk),
+        &words,
+        &mut io::empty(),
+        &mut out,
+        &mut errors,
+    );
     same(
         "no dead link",
         &(status, out.as_slice()),

@@ -4,6 +4,7 @@ use crate::tests::{add_symlink, same, words_of};
 use relmove_disk::{Content, Disk, DiskMachine, Place, disk_of, file_of};
 use relmove_lib::{Status, answer};
 use std::alloc::Global;
+use std::io;
 use std::test::Fail;
 
 // A symbolic link: its path from the top of the disk, and the path in it.
@@ -69,21 +70,21 @@ const LOST: [Case; 6] = [
     Case {
         case: "a symbolic link in a directory that isn't read",
         places: &[
-            (".github", None),
+            (".gitlab", None),
             ("README.md", Some("rr")),
             (
                 "p.md",
                 Some(
-                    "[x](.github/README.md) [y](.github/none.md) [e](%2Egithub/README.md) [r](&#46;github/README.md) [b](\\.github/README.md)",
+                    "[x](.gitlab/README.md) [y](.gitlab/none.md) [e](%2Egitlab/README.md) [r](&#46;gitlab/README.md) [b](\\.gitlab/README.md)",
                 ),
             ),
         ],
-        symlinks: &[("site/.github/README.md", "../README.md")],
+        symlinks: &[("site/.gitlab/README.md", "../README.md")],
         moves: &["README.md", "docs/README.md"],
-        printed: "site/p.md:1:5: .github/README.md leads through a symbolic link, and to nothing after the moves\nsite/p.md:1:49: %2Egithub/README.md leads through a symbolic link, and to nothing after the moves\nsite/p.md:1:74: &#46;github/README.md leads through a symbolic link, and to nothing after the moves\nsite/p.md:1:101: \\.github/README.md leads through a symbolic link, and to nothing after the moves\n",
+        printed: "site/p.md:1:5: .gitlab/README.md leads through a symbolic link, and to nothing after the moves\nsite/p.md:1:49: %2Egitlab/README.md leads through a symbolic link, and to nothing after the moves\nsite/p.md:1:74: &#46;gitlab/README.md leads through a symbolic link, and to nothing after the moves\nsite/p.md:1:101: \\.gitlab/README.md leads through a symbolic link, and to nothing after the moves\n",
         end: "0 pages changed, 1 file moved.\n",
         status: Status::LinksLeft,
-        dead: "site/p.md:1:5: .github/README.md: nothing is there\nsite/p.md:1:28: .github/none.md: nothing is there\nsite/p.md:1:49: %2Egithub/README.md: nothing is there\nsite/p.md:1:74: &#46;github/README.md: nothing is there\nsite/p.md:1:101: \\.github/README.md: nothing is there\n",
+        dead: "site/p.md:1:5: .gitlab/README.md: nothing is there\nsite/p.md:1:28: .gitlab/none.md: nothing is there\nsite/p.md:1:49: %2Egitlab/README.md: nothing is there\nsite/p.md:1:74: &#46;gitlab/README.md: nothing is there\nsite/p.md:1:101: \\.gitlab/README.md: nothing is there\n",
     },
     Case {
         case: "out of the root and back",
@@ -535,7 +536,13 @@ fn calls_with(alloc: Global, text: &'static str) -> Result<u32, Fail> {
     let disk = disk_of(alloc, &[("a.md", Some("aa")), ("p.md", Some(text))])?;
     let (mut out, mut errors) = (Vec::new(alloc), Vec::new(alloc));
     let words = ["site", "a.md", "b.md"];
-    answer(&DiskMachine(&disk), &words, &mut out, &mut errors);
+    answer(
+        &DiskMachine(&disk),
+        &words,
+        &mut io::empty(),
+        &mut out,
+        &mut errors,
+    );
     Ok(disk.calls())
 }
 

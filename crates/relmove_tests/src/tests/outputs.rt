@@ -49,7 +49,13 @@ fn is_refused(alloc: Global, words: &[&str], takes: bool) -> Result<(), Fail> {
     let disk = disk_of(alloc, SITE)?;
     let mut output = Output { takes, flushes: 0 };
     let mut errors = Vec::new(alloc);
-    let status = answer(&DiskMachine(&disk), words, &mut output, &mut errors);
+    let status = answer(
+        &DiskMachine(&disk),
+        words,
+        &mut io::empty(),
+        &mut output,
+        &mut errors,
+    );
     same("a failing output", &status, &Status::Refused)?;
     holds(alloc, "a failing output", &disk, SITE)
 }
@@ -71,7 +77,13 @@ fn check_is_refused(alloc: Global, words: &[&str], takes: bool) -> Result<(), Fa
     let disk = disk_of(alloc, DEAD)?;
     let mut output = Output { takes, flushes: 0 };
     let mut errors = Vec::new(alloc);
-    let status = answer(&DiskMachine(&disk), words, &mut output, &mut errors);
+    let status = answer(
+        &DiskMachine(&disk),
+        words,
+        &mut io::empty(),
+        &mut output,
+        &mut errors,
+    );
     same("a failing output", &status, &Status::Refused)
 }
 
@@ -93,7 +105,13 @@ fn moves_although_the_end_is_not_printed(rt: HostRuntime) -> Result<(), Fail> {
         flushes: 1,
     };
     let mut errors = Vec::new(rt.alloc());
-    let status = answer(&DiskMachine(&disk), WRITE, &mut output, &mut errors);
+    let status = answer(
+        &DiskMachine(&disk),
+        WRITE,
+        &mut io::empty(),
+        &mut output,
+        &mut errors,
+    );
     same("the status", &status, &Status::Kept)?;
     holds(rt.alloc(), "moved", &disk, MOVED_SITE)
 }

@@ -4,7 +4,7 @@ use crate::tests::{add_symlink, holds, same};
 use relmove_disk::{Content, Disk, DiskMachine, DiskStore, Place, disk_of};
 use relmove_lib::report::print_end;
 use relmove_lib::{Progress, Status, WithProgress, answer};
-use relmove_run::{Call, Ended, Fault, Machine, Remark, Stage};
+use relmove_run::{Ended, Machine, Remark, RunFault, Stage, SystemCall};
 use std::alloc::{Alloc, AllocError, Global};
 use std::cell::Cell;
 use std::fmt::Display;
@@ -32,7 +32,7 @@ fn prints_progress_each_half_second(rt: HostRuntime) -> Result<(), Fail> {
     let progress = Progress::new();
     let watched = WithProgress::new(&machine, &progress);
     let (mut out, mut errors) = (Vec::new(rt.alloc()), Vec::new(rt.alloc()));
-    let status = answer(&watched, WRITE, &mut out, &mut errors);
+    let status = answer(&watched, WRITE, &mut io::empty(), &mut out, &mut errors);
     same("the status", &status, &Status::Kept)?;
     same("what was printed", &disk.has_printed(LINES)?, &true)?;
     holds(rt.alloc(), "the tree", &disk, MOVED_SITE)
@@ -81,7 +81,7 @@ const STOPS: [(Stage, &str, &str); 9] = [
 fn is_told(alloc: Global, stage: Stage, has_journal: bool, expected: String) -> Result<(), Fail> {
     let stopped = Ended::Stopped {
         stage,
-        fault: Fault::Missing(String::from_str(alloc, "a.md")?),
+        fault: RunFault::Missing(String::from_str(alloc, "a.md")?),
         has_journal,
         remarks: Vec::new(alloc),
     };
@@ -119,7 +119,7 @@ fn says_what_a_run_left_that_went_back_by_itself(rt: HostRuntime) -> Result<(), 
         to: String::from_str(alloc, ".relmove-run/1")?,
     })?;
     let ended = Ended::TakenBack {
-        cause: Some(Fault::Changed(String::from_str(alloc, "a.md")?)),
+        cause: Some(RunFault::Changed(String::from_str(alloc, "a.md")?)),
         remarks,
     };
     let mut out = Vec::new(alloc);
@@ -136,7 +136,7 @@ fn says_what_a_run_left_that_stopped(rt: HostRuntime) -> Result<(), Fail> {
     remarks.push(Remark::Kept(String::from_str(alloc, ".relmove-run/1")?))?;
     let stopped = Ended::Stopped {
         stage: Stage::Cleaning,
-        fault: Fault::Missing(String::from_str(alloc, "a.md")?),
+        fault: RunFault::Missing(String::from_str(alloc, "a.md")?),
         has_journal: true,
         remarks,
     };
@@ -150,8 +150,8 @@ fn says_what_a_run_left_that_stopped(rt: HostRuntime) -> Result<(), Fail> {
 #[test]
 fn names_the_root(rt: HostRuntime) -> Result<(), Fail> {
     let alloc = rt.alloc();
-    let ended = Ended::Refused(Fault::System {
-        call: Call::Sync,
+    let ended = Ended::Refused(RunFault::System {
+        call: SystemCall::Sync,
         path: String::new(alloc),
         why: String::from_str(alloc, "no room")?,
     });
@@ -165,7 +165,7 @@ fn names_the_root(rt: HostRuntime) -> Result<(), Fail> {
 fn says_only_why_a_run_went_back_that_left_nothing(rt: HostRuntime) -> Result<(), Fail> {
     let alloc = rt.alloc();
     let ended = Ended::TakenBack {
-        cause: Some(Fault::Changed(String::from_str(alloc, "a.md")?)),
+        cause: Some(RunFault::Changed(String::from_str(alloc, "a.md")?)),
         remarks: Vec::new(alloc),
     };
     let mut out = Vec::new(alloc);
@@ -243,7 +243,13 @@ fn prints_progress_after_half_a_second(rt: HostRuntime) -> Result<(), Fail> {
     let progress = Progress::new();
     let watched = WithProgress::new(&slow, &progress);
     let (mut out, mut errors) = (Vec::new(rt.alloc()), Vec::new(rt.alloc()));
-    let status = answer(&watched, &["--check", "site"], &mut out, &mut errors);
+    let status = answer(
+        &watched,
+        &["--check", "site"],
+        &mut io::empty(),
+        &mut out,
+        &mut errors,
+    );
     same("the status", &status, &Status::Kept)?;
     let lines = "relmove: 6 files opened, 0 renamed\n";
     same("what was printed", &disk.has_printed(lines)?, &true)
@@ -281,7 +287,7 @@ fn outcome_of<R: Machine>(
     words: &[&str],
 ) -> Result<Outcome, Fail> {
     let (mut out, mut errors) = (Vec::new(alloc), Vec::new(alloc));
-    let status = answer(machine, words, &mut out, &mut errors);
+    let status = answer(machine, words, &mut io::empty(), &mut out, &mut errors);
     Ok(Outcome {
         status,
         out,

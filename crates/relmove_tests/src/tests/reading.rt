@@ -2,7 +2,7 @@
 use crate::tests::same;
 use relmove_disk::{Content, Disk, DiskMachine};
 use relmove_lib::{EntryKind, Position, Status, answer, position_after, read_tree};
-use relmove_run::{Fault, Machine};
+use relmove_run::{Machine, RunFault};
 use std::alloc::Global;
 use std::io;
 use std::test::Fail;
@@ -57,7 +57,7 @@ fn site(alloc: Global) -> io::Result<Disk> {
 fn reads_a_tree(rt: HostRuntime) -> Result<(), Fail> {
     let disk = site(rt.alloc())?;
     let machine = DiskMachine(&disk);
-    let tree = read_tree(&mut machine.store_at("site")?)?;
+    let tree = read_tree(&mut machine.store_at("site")?, &[])?;
     let entries = tree.entries.keys().map(|path| path.as_str());
     let entries = entries.collect::<Vec<_>>(rt.alloc())?;
     let expected = [
@@ -95,7 +95,7 @@ fn reads_a_tree(rt: HostRuntime) -> Result<(), Fail> {
 fn reads_where_links_lead(rt: HostRuntime) -> Result<(), Fail> {
     let disk = site(rt.alloc())?;
     let machine = DiskMachine(&disk);
-    let tree = read_tree(&mut machine.store_at("site")?)?;
+    let tree = read_tree(&mut machine.store_at("site")?, &[])?;
     let guide = EntryKind::Symlink(Some(String::from_str(rt.alloc(), "guide")?));
     same("a link", &tree.entries.get("s"), &Some(&guide))?;
     let directory = EntryKind::Directory;
@@ -106,11 +106,11 @@ fn reads_where_links_lead(rt: HostRuntime) -> Result<(), Fail> {
 fn fails_if_a_call_fails(rt: HostRuntime) -> Result<(), Fail> {
     let disk = site(rt.alloc())?;
     let machine = DiskMachine(&disk);
-    read_tree(&mut machine.store_at("site")?)?;
+    read_tree(&mut machine.store_at("site")?, &[])?;
     for number in 1..=disk.calls() {
-        disk.fail_at(number, relmove_disk::Way::Refused);
-        let read = read_tree(&mut machine.store_at("site")?);
-        let failed = matches!(&read, Err(Fault::System { .. }));
+        disk.fail_at(number, relmove_disk::Failing::Refused);
+        let read = read_tree(&mut machine.store_at("site")?, &[]);
+        let failed = matches!(&read, Err(RunFault::System { .. }));
         same("a call fails", &failed, &true)?;
     }
     Ok(())
@@ -120,18 +120,18 @@ fn fails_if_a_call_fails(rt: HostRuntime) -> Result<(), Fail> {
 fn reads_while_a_page_goes(alloc: Global, number: u32) -> Result<(), Fail> {
     let disk = site(alloc)?;
     disk.remove_before(number, "site/a.md")?;
-    let read = read_tree(&mut DiskMachine(&disk).store_at("site")?);
+    let read = read_tree(&mut DiskMachine(&disk).store_at("site")?, &[]);
     same("a page goes", &read.is_ok(), &true)?;
     let disk = site(alloc)?;
     disk.replace_before(number, "site/a.md", Content::Other)?;
-    let read = read_tree(&mut DiskMachine(&disk).store_at("site")?);
+    let read = read_tree(&mut DiskMachine(&disk).store_at("site")?, &[]);
     same("a page becomes a FIFO", &read.is_ok(), &true)
 }
 
 #[test]
 fn leaves_out_a_page_that_goes(rt: HostRuntime) -> Result<(), Fail> {
     let disk = site(rt.alloc())?;
-    read_tree(&mut DiskMachine(&disk).store_at("site")?)?;
+    read_tree(&mut DiskMachine(&disk).store_at("site")?, &[])?;
     for number in 1..=disk.calls() {
         reads_while_a_page_goes(rt.alloc(), number)?;
     }
@@ -152,7 +152,13 @@ pub fn answers(
     expected: (Status, &str, &str),
 ) -> Result<(), Fail> {
     let (mut out, mut errors) = (Vec::new(alloc), Vec::new(alloc));
-    let status = answer(&DiskMachine(disk), words, &mut out, &mut errors);
+    let status = answer(
+        &DiskMachine(disk),
+        words,
+        &mut io::empty(),
+        &mut out,
+        &mut errors,
+    );
     let (out, errors) = (String::from_utf8(out)?, String::from_utf8(errors)?);
     same(
         "a call",

@@ -2,13 +2,14 @@
 use super::all_in_attributes;
 use std::test::Fail;
 
-const BACKSLASHES: [(&str, &str); 7] = [
+const BACKSLASHES: [(&str, &str); 8] = [
     ("a\\_b.md", "=a/_b.md@7"),
     ("\\a.md", "-"),
     ("\\\\evil.com", "-"),
     ("a\\..\\b", "=a/../b@6"),
     ("a%5Cb", "=a\\b@5"),
     ("a&#92;b", "=a/b@7"),
+    ("a&bsol;b", "=a/b@8"),
     ("a\\#b", "=a/@2"),
 ];
 
@@ -17,7 +18,7 @@ fn a_backslash_is_a_slash(rt: HostRuntime) -> Result<(), Fail> {
     all_in_attributes(rt.alloc(), &BACKSLASHES)
 }
 
-const SPACES: [(&str, &str); 12] = [
+const SPACES: [(&str, &str); 14] = [
     (" a.md ", "=a.md@6"),
     ("\n\ta.md\r\n", "=a.md@8"),
     ("a\n.m\td", "=a.md@6"),
@@ -27,6 +28,8 @@ const SPACES: [(&str, &str); 12] = [
     ("\u{1}a\u{1f}", "=a@3"),
     ("&#32;a&#x9;", "=a@11"),
     ("&nbsp;a", "=\u{A0}a@7"),
+    ("a&Tab;b", "=ab@7"),
+    ("a&NewLine;b", "=ab@11"),
     (" \t ", "-"),
     (" /a", "-"),
     ("ht\ntp://h/x", "-"),

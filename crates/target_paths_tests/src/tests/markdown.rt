@@ -35,12 +35,14 @@ fn a_backslash_escapes_punctuation(rt: HostRuntime) -> Result<(), Fail> {
     all_in_markdown(rt.alloc(), &ESCAPES)
 }
 
-const KEPT: [(&str, &str); 5] = [
+const KEPT: [(&str, &str); 7] = [
     (" a ", "= a @3"),
     ("\ta", "=\ta@2"),
     ("a\nb", "=a\nb@3"),
     ("a\0b", "=a\u{FFFD}b@3"),
     ("a\u{A0}", "=a\u{A0}@3"),
+    ("a&Tab;b", "=a\tb@7"),
+    ("a&bsol;b", "=a\\b@8"),
 ];
 
 #[test]

@@ -4,14 +4,17 @@ use std::test::Fail;
 
 const REFERENCE: &str = "!CharacterReference";
 
-const IN_MARKDOWN: [(&str, &str); 7] = [
-    ("a&copy;b", REFERENCE),
-    ("&colon;", REFERENCE),
-    ("&frac34;.md", REFERENCE),
+// The last of these names is in CommonMark's example of text that isn't an entity.
+const IN_MARKDOWN: [(&str, &str); 9] = [
+    ("a&Copy;b", REFERENCE),
+    ("&frac17;.md", REFERENCE),
     ("&MadeUpEntity;", REFERENCE),
-    ("a#&copy;", "=a@1"),
-    ("a?q&copy;", "=a@1"),
-    ("a&#63;&copy;", "=a@1"),
+    ("&x;", REFERENCE),
+    ("&notit;", REFERENCE),
+    ("a#&x;", "=a@1"),
+    ("a?q&x;", "=a@1"),
+    ("a&#63;&x;", "=a@1"),
+    ("&ThisIsNotDefined;", REFERENCE),
 ];
 
 #[test]
@@ -19,18 +22,19 @@ fn names_in_markdown(rt: HostRuntime) -> Result<(), Fail> {
     all_in_markdown(rt.alloc(), &IN_MARKDOWN)
 }
 
-const IN_ATTRIBUTES: [(&str, &str); 11] = [
-    ("a&copy;b", REFERENCE),
-    ("a&copy", REFERENCE),
+const IN_ATTRIBUTES: [(&str, &str); 12] = [
+    ("a&Copy;b", REFERENCE),
+    ("a&Copy", REFERENCE),
     ("AT&T.md", REFERENCE),
-    ("a&amp", REFERENCE),
+    ("a&no", REFERENCE),
+    ("a&eacutE;", REFERENCE),
     ("a&#", REFERENCE),
     ("a&#65", REFERENCE),
     ("&#128;", REFERENCE),
     ("&#x9f;", REFERENCE),
     ("&#xA0;", "=\u{A0}@6"),
     ("&#87654321;", REFERENCE),
-    ("a?b=1&copy=2", "=a@1"),
+    ("a?b=1&T=2", "=a@1"),
 ];
 
 #[test]

@@ -1,6 +1,6 @@
 -- The page is rewritten between its normal directories.
 use Rattle.std.proofs.Common.{◌≡◌, ◌∙◌, sym, subst}
-use Rattle.relative_path.specs.RelativePath.{path_components}
+use Rattle.relative_path.specs.Steps.{components}
 use Rattle.relative_path_links.specs.Edits.{targets_of}
 use Rattle.relative_path_links.specs.Targets.{HasTargets}
 use Rattle.relative_path_links.proofs.EditsLemmas.{targets_of-settled}
@@ -21,7 +21,7 @@ returns g c =
     let targets : targets_of edits ≡ c.in_ok-targets.targets.items =
     targets_of-settled written edits c.in_ok-settled.ensures.edits
     ∙ (rw c.deref.ensures.value at c.in_ok-edits.ensures.targets) in
-    ForMovedPage-rewritten finds c.args.moves.now (path_components c.args.page.path) c.in_ok-moved.moved page edits
+    ForMovedPage-rewritten finds c.args.moves.now (components c.args.page.path.now) c.in_ok-moved.moved page edits
     c.in_ok-settled.settled.text c.in_ok-moved.ensures.before c.in_ok-moved.ensures.after
     (record {
       found = subst (finds page) (sym targets) c.in_ok-targets.ensures.found;

@@ -7,6 +7,7 @@ use relative_path_links::{
     Finder, Markdown, MovedSitePage, SitePage, edited, rewrite_links, rewrite_site, targets,
 };
 use relative_path_moves::{PageMove, TreeMoves};
+use relative_path_places::NormalPath;
 use std::alloc::{AllocError, Global};
 use std::test::Fail;
 
@@ -37,7 +38,8 @@ fn first_moved_in(
     page: &str,
     expected: &str,
 ) -> Result<(), Fail> {
-    let moved = tree.moved_page(alloc, RelativePath::new("a.md"))?;
+    let path = NormalPath::of(alloc, RelativePath::new("a.md"))?;
+    let moved = tree.moved_page(alloc, &path)?;
     moved_in(alloc, tree, &moved, page, expected)
 }
 
@@ -126,7 +128,8 @@ fn end_with_text(
 fn edited_down(alloc: Global, page: &str, expected: &str) -> Result<(), Fail> {
     let moves = moves(alloc, &[("a.md", "b/a.md")])?;
     let tree = TreeMoves::new(alloc, &moves)?;
-    let moved = tree.moved_page(alloc, RelativePath::new("a.md"))?;
+    let path = NormalPath::of(alloc, RelativePath::new("a.md"))?;
+    let moved = tree.moved_page(alloc, &path)?;
     edited_in(alloc, &tree, &moved, page, expected)
 }
 
@@ -170,10 +173,8 @@ fn site_moved_in(
     text: &str,
     expected: Option<&str>,
 ) -> Result<(), Fail> {
-    let page = SitePage {
-        path: RelativePath::new("a.md"),
-        text,
-    };
+    let path = NormalPath::of(alloc, RelativePath::new("a.md"))?;
+    let page = SitePage { path: &path, text };
     begin(alloc);
     let answer = rewrite_site(alloc, &[page], tree, &Markdown);
     end_with_site(alloc, answer, expected)
@@ -186,19 +187,19 @@ fn site_moved_down(alloc: Global, text: &str, expected: Option<&str>) -> Result<
     site_moved_in(alloc, &tree, text, expected)
 }
 
-// Requests: 80 9 96 648 64 96 96 24 1s 4 7 1s 1 88 4 4 1s 4 8 7 9 18 12 96 648 64 96 96 24 = 6
+// Requests: 80 9 96 648 64 96 96 24 7 1 88 4 4 1s 4 8 7 9 18 12 96 648 64 96 96 24 = 6
 #[test]
 fn a_site(rt: HostRuntime) -> Result<(), Fail> {
     site_moved_down(rt.alloc(), "[c](c.md)", Some("[c](../c.md)"))
 }
 
-// Requests: 80 7 96 648 64 96 96 24 1s 4 7 1s 1 88 2 = 3
+// Requests: 80 7 96 648 64 96 96 24 7 1 88 2 = 3
 #[test]
 fn a_site_whose_page_stays(rt: HostRuntime) -> Result<(), Fail> {
     site_moved_down(rt.alloc(), "[c](#c)", None)
 }
 
-// Requests: 80 9 96 648 64 96 96 24 1s 4 7 1s 1 88 1 1 1s 1 6 4 3 9 18 11 96 648 64 = 4
+// Requests: 80 9 96 648 64 96 96 24 7 1 88 1 1 1s 1 6 4 3 9 18 11 96 648 64 = 4
 #[test]
 fn a_site_whose_page_would_read_otherwise(rt: HostRuntime) -> Result<(), Fail> {
     site_moved_down(rt.alloc(), "[x](\n<x>)", None)

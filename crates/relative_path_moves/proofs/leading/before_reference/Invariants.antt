@@ -7,7 +7,7 @@ use Rattle.relative_path_moves.proofs.leading.before_reference.Given as goal
 
 abbrev pub invariant-loop-component : goal.invariant-loop-component
 invariant-loop-component l = record {
-  back : IsBack (path_components l.fn.reference) (path_components l.fn.target) (components_left l.reference_left) l.climb
+  back : IsBack (path_components l.fn.reference) (path_components l.fn.file) (components_left l.reference_left) l.climb
       (components_left l.left);
   fits : l.climb + length (components_left l.reference_left) ≤ length (path_text l.fn.reference);
 }

@@ -4,8 +4,8 @@ use super::{directory_of, end_with, end_with_normal, long_text};
 use crate::tests::{as_paths, same, text_of};
 use relative_path::{RelativePath, RelativePathBuf};
 use relative_path_moves::{
-    MoveError, MoveTable, MoveTableError, MovedReference, PageMove, ReferenceError, TreeMoves,
-    moved,
+    Move, MoveError, MoveTable, MoveTableError, MovedReference, PageMove, ReferenceError,
+    TreeMoves, moved,
 };
 use relative_path_places::NormalPath;
 use std::alloc::{AllocError, Global};
@@ -224,11 +224,52 @@ fn plants(alloc: Global, moves: &[(RelativePath<'_>, RelativePath<'_>)]) -> Resu
     }
 }
 
-// Requests: 1s 4 488 1s 1s 5 = 4, = 0
+// Requests: 80 1s 4 1s 5 4 488 = 5, = 0
 #[test]
 fn a_tree(rt: HostRuntime) -> Result<(), Fail> {
     plants(rt.alloc(), &docs_moves())?;
     plants(rt.alloc(), &[])
+}
+
+// Requests: 1s 4 1s 5 = 2
+#[test]
+fn a_move(rt: HostRuntime) -> Result<(), Fail> {
+    let [old, new] = ["docs", "guide"].map(RelativePath::new);
+    begin(rt.alloc());
+    let answer = Move::of(rt.alloc(), old, new);
+    match answer {
+        Ok(a) => end_with(rt.alloc(), "a move", normal_text(a.new.normal()), "guide"),
+        Err(_) => end(rt.alloc(), true),
+    }
+}
+
+// Requests: 80 1s 4 1s 5 = 3
+#[test]
+fn moves_of_pairs(rt: HostRuntime) -> Result<(), Fail> {
+    begin(rt.alloc());
+    let answer = Move::of_pairs(rt.alloc(), &docs_moves());
+    match answer {
+        Ok(moves) => end_with(rt.alloc(), "moves", moves.len(), 1),
+        Err(_) => end(rt.alloc(), true),
+    }
+}
+
+// Two moves to one path.
+fn moves_to_one() -> [(RelativePath<'static>, RelativePath<'static>); 2] {
+    [("a", "c/d"), ("b", "c//d")].map(as_paths)
+}
+
+// Requests: 3 488 3 = 0
+#[test]
+fn the_same_new_path(rt: HostRuntime) -> Result<(), Fail> {
+    let moves = moves_to_one();
+    let tree = TreeMoves::new(rt.alloc(), &moves)?;
+    begin(rt.alloc());
+    let answer = tree.same_new(rt.alloc());
+    match answer {
+        Ok(pair) => end_with(rt.alloc(), "a pair", pair, Some((0, 1))),
+        Err(_) => end(rt.alloc(), true),
+    }
 }
 
 // Where a file is after a move of a directory.
@@ -293,6 +334,30 @@ fn the_new_path_of_a_file_in_a_tree(rt: HostRuntime) -> Result<(), Fail> {
     ask_if_taken(rt.alloc(), &tree, "../a", None)
 }
 
+// Where a file with a normal path is after a move of a directory.
+fn ask_of_a_normal_path(
+    alloc: Global,
+    tree: &TreeMoves<'_>,
+    file: &str,
+    now: &str,
+) -> Result<(), Fail> {
+    let path = NormalPath::of(alloc, RelativePath::new(file))?;
+    begin(alloc);
+    let answer = tree.normal_after(alloc, path.view());
+    end_with_normal(alloc, "a file", answer, now)
+}
+
+// Requests: 7 = 1, 7 = 1, = 0, 4 = 1
+#[test]
+fn the_path_of_a_normal_path_in_a_tree(rt: HostRuntime) -> Result<(), Fail> {
+    let moves = docs_moves();
+    let tree = TreeMoves::new(rt.alloc(), &moves)?;
+    for (file, now) in &FILES {
+        ask_of_a_normal_path(rt.alloc(), &tree, file, now)?;
+    }
+    Ok(())
+}
+
 // The path of a page after the moves, and its directories before and after them.
 fn texts_of(moved: &PageMove) -> (&str, &str, &str) {
     (
@@ -322,8 +387,9 @@ fn ask_of_a_page(
     page: &str,
     now: (&str, &str, &str),
 ) -> Result<(), Fail> {
+    let path = NormalPath::of(alloc, RelativePath::new(page))?;
     begin(alloc);
-    let answer = tree.moved_page(alloc, RelativePath::new(page));
+    let answer = tree.moved_page(alloc, &path);
     end_with_page(alloc, page, answer, now)
 }
 
@@ -347,7 +413,7 @@ fn ask_of_a_long_page(alloc: Global, tree: &TreeMoves<'_>, long: &str) -> Result
     ask_of_a_page(alloc, tree, long, (long, above, above))
 }
 
-// Requests: 1s 4 2s 6 7 1s 5 = 3, 1s 1 2s 3 1s 1 = 3, = 0, 524287s 1048573 524288s 1048576 524287s 1048573 = 3
+// Requests: 4 7 5 = 3, 1 3 1 = 3, = 0, 1048573 1048576 1048573 = 3
 #[test]
 fn a_page_of_a_tree(rt: HostRuntime) -> Result<(), Fail> {
     let moves = docs_moves();
@@ -378,7 +444,8 @@ fn ask_in_a_tree(
     (page, reference): (&str, &str),
     text: Option<&str>,
 ) -> Result<(), Fail> {
-    let page = tree.moved_page(alloc, RelativePath::new(page))?;
+    let path = NormalPath::of(alloc, RelativePath::new(page))?;
+    let page = tree.moved_page(alloc, &path)?;
     begin(alloc);
     let answer = tree.moved_in(alloc, &page, RelativePath::new(reference));
     end_with_change(alloc, reference, answer, text)
@@ -392,7 +459,8 @@ fn ask_in_a_deeper_tree(alloc: Global) -> Result<(), Fail> {
 }
 
 fn ask_above_root(alloc: Global, tree: &TreeMoves<'_>) -> Result<(), Fail> {
-    let page = tree.moved_page(alloc, RelativePath::new("docs/a"))?;
+    let path = NormalPath::of(alloc, RelativePath::new("docs/a"))?;
+    let page = tree.moved_page(alloc, &path)?;
     begin(alloc);
     let answer = tree.moved_in(alloc, &page, RelativePath::new("../../x"));
     end_above_root(alloc, answer.err())
@@ -488,7 +556,8 @@ fn find_in_a_tree(
     (page, reference): (&str, &str),
     expected: (&str, Result<Option<&str>, ReferenceError>),
 ) -> Result<(), Fail> {
-    let page = moves.moved_page(alloc, RelativePath::new(page))?;
+    let path = NormalPath::of(alloc, RelativePath::new(page))?;
+    let page = moves.moved_page(alloc, &path)?;
     begin(alloc);
     let answer = moves.reference_in(alloc, &page, RelativePath::new(reference));
     end_with_reference(alloc, reference, whole(answer), expected)

@@ -3,7 +3,7 @@ use super::marks::{begin, end};
 use super::{end_with, end_with_normal, long_text};
 use crate::tests::{finds, normal, text_of};
 use relative_path::{RelativePath, RelativePathBuf};
-use relative_path_places::{NamePath, NormalPath, PlaceIndex};
+use relative_path_places::{NamePath, NormalPath, PlaceIndex, WrittenPath};
 use std::alloc::{AllocError, Global};
 use std::test::Fail;
 
@@ -158,4 +158,61 @@ fn way(alloc: Global, from: &str, to: &str, expected: &str) -> Result<(), Fail> 
 fn the_shortest_way(rt: HostRuntime) -> Result<(), Fail> {
     way(rt.alloc(), "docs/guide", "docs/img/x.png", "../img/x.png")?;
     way(rt.alloc(), "a", "a", "")
+}
+
+fn copy_of(alloc: Global, text: &str) -> Result<(), Fail> {
+    let path = normal(alloc, text)?;
+    begin(alloc);
+    let answer = path.copy(alloc);
+    end_with_normal(alloc, "a copy", answer, text)
+}
+
+// Requests: 3 = 1, = 0
+#[test]
+fn a_copy(rt: HostRuntime) -> Result<(), Fail> {
+    copy_of(rt.alloc(), "a/b")?;
+    copy_of(rt.alloc(), "")
+}
+
+// Requests: 4 = 1
+#[test]
+fn a_copy_of_a_view(rt: HostRuntime) -> Result<(), Fail> {
+    let path = normal(rt.alloc(), "docs/a")?;
+    let above = path.view().parent().ok_or("a parent")?;
+    begin(rt.alloc());
+    let answer = NormalPath::of_view(rt.alloc(), above);
+    end_with_normal(rt.alloc(), "a directory", answer, "docs")
+}
+
+// The mark after a call. Fails if no allocation failed and the path is written in another way, or has another normal text.
+fn end_with_written(
+    alloc: Global,
+    answer: Result<WrittenPath<'_>, AllocError>,
+    texts: (&str, &str),
+) -> Result<(), Fail> {
+    match answer {
+        Ok(path) => {
+            let normal = path.normal().as_relative_path();
+            let found = (path.written().as_str(), normal.as_str());
+            end_with(alloc, "a path", found, texts)
+        }
+        Err(_) => end(alloc, true),
+    }
+}
+
+// Requests: 2s 3 = 1
+#[test]
+fn a_written_path(rt: HostRuntime) -> Result<(), Fail> {
+    begin(rt.alloc());
+    let answer = WrittenPath::of(rt.alloc(), RelativePath::new("a//b"));
+    end_with_written(rt.alloc(), answer, ("a//b", "a/b"))
+}
+
+// Requests: 3 = 1
+#[test]
+fn a_copy_of_a_written_path(rt: HostRuntime) -> Result<(), Fail> {
+    let path = WrittenPath::of(rt.alloc(), RelativePath::new("a//b"))?;
+    begin(rt.alloc());
+    let answer = path.copy(rt.alloc());
+    end_with_written(rt.alloc(), answer, ("a//b", "a/b"))
 }

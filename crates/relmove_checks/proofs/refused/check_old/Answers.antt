@@ -13,11 +13,11 @@ returns-then-has_path_below-clause-refused c = λ entries new index are.
       refl,
       record {
         there =
-            IsThere-found entries (path_components c.args.old) c.get.result c.if-is_none.ensures
-            (c.get.ensures.found (entry_paths entries) (path_components c.args.old) index c.in_ok-old.ensures.same);
-        normal = c.in_ok-old.old;
-        normal_of = c.in_ok-old.ensures;
-        foreign = HoldsForeignName-paths entries c.args.foreign.now are (components c.in_ok-old.old) below;
+            IsThere-found entries (path_components c.args.old.now) c.get.result c.if-is_none.ensures
+            (c.get.ensures.found (entry_paths entries) (path_components c.args.old.now) index c.normal-old.ensures.same);
+        normal = c.normal-old.result.now;
+        normal_of = c.normal-old.ensures;
+        foreign = HoldsForeignName-paths entries c.args.foreign.now are (components c.normal-old.result.now) below;
       },
     )
 
@@ -26,9 +26,9 @@ returns-clause-fine c = λ entries index are.
     let none = rw (c.if-has_path_below.false, c.as_relative_path.ensures.text) at c.has_path_below.ensures in
     record {
       there =
-          IsThere-found entries (path_components c.args.old) c.get.result c.if-is_none.ensures
-          (c.get.ensures.found (entry_paths entries) (path_components c.args.old) index c.in_ok-old.ensures.same);
-      normal = c.in_ok-old.old;
-      normal_of = c.in_ok-old.ensures;
-      plain = HoldsNoForeignName-paths entries c.args.foreign.now are (components c.in_ok-old.old) none;
+          IsThere-found entries (path_components c.args.old.now) c.get.result c.if-is_none.ensures
+          (c.get.ensures.found (entry_paths entries) (path_components c.args.old.now) index c.normal-old.ensures.same);
+      normal = c.normal-old.result.now;
+      normal_of = c.normal-old.ensures;
+      plain = HoldsNoForeignName-paths entries c.args.foreign.now are (components c.normal-old.result.now) none;
     }

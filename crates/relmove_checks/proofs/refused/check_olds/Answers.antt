@@ -10,14 +10,14 @@ pub returns-in_err-check_old-clause-refused : goal.returns-in_err-check_old-clau
 returns-in_err-check_old-clause-refused c =
     IfErr-error c.from_residual.result c.in_err-check_old.field-0.0 _ c.from_residual.ensures.1
     (λ entries index are.
-    IsOfFirst-here (λ (move : Move). IsOldFine entries move.old) c.args.moves.now c.loop-number.number _
-    c.loop-number-test.true (c.loop-number.invariant entries index are) (IsOldRefusal entries)
+    IsOfFirst-here (λ (move : Move). IsOldFine entries move.old) c.args.moves.now c.loop-number.number c.index-moves-number.result
+    c.loop-number-test.true c.index-moves-number.is (c.loop-number.invariant entries index are) (IsOldRefusal entries)
     c.in_err-check_old.field-0.0 (c.in_err-check_old.ensures.refused entries [] index are))
 
 pub loop-number-preserved : goal.loop-number-preserved
 loop-number-preserved c = λ entries index are.
-    EachMove-next (λ (move : Move). IsOldFine entries move.old) c.args.moves.now c.loop-number.number _
-    c.loop-number-test.true (c.loop-number.invariant entries index are)
+    EachMove-next (λ (move : Move). IsOldFine entries move.old) c.args.moves.now c.loop-number.number c.index-moves-number.result
+    c.loop-number-test.true c.index-moves-number.is (c.loop-number.invariant entries index are)
     (c.in_ok-check_old.ensures.fine entries index are)
 
 pub returns-clause-fine : goal.returns-clause-fine

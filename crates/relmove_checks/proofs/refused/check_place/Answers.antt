@@ -1,13 +1,12 @@
 -- The normal path is below a barrier, or it isn't.
-use Rattle.std.proofs.Common.{inr}
 use Rattle.relmove_checks.proofs.refused.check_place.Goals as goal
 
-pub returns-then-is_below-clause-refused : goal.returns-then-is_below-clause-refused
-returns-then-is_below-clause-refused c = λ old tree known.
-    let above = rw (c.if-is_below.true, c.as_relative_path.ensures.text) at (c.in_ok-is_below.ensures tree known) in
-    inr (c.refusal_below.ensures, (c.in_ok-place.place, c.in_ok-place.ensures, above))
+pub returns-then-is_below_barrier-clause-refused : goal.returns-then-is_below_barrier-clause-refused
+returns-then-is_below_barrier-clause-refused c = λ old tree known.
+    let above = rw (c.if-is_below_barrier.true, c.view.ensures.text) at (c.is_below_barrier.ensures tree known) in
+    (c.refusal_below.ensures, (c.normal-place.result.now, c.normal-place.ensures, above))
 
 pub returns-clause-fine : goal.returns-clause-fine
 returns-clause-fine c = λ tree known.
-    let above = rw (c.if-is_below.false, c.as_relative_path.ensures.text) at (c.in_ok-is_below.ensures tree known) in
-    (c.in_ok-place.place, c.in_ok-place.ensures, above)
+    let above = rw (c.if-is_below_barrier.false, c.view.ensures.text) at (c.is_below_barrier.ensures tree known) in
+    (c.normal-place.result.now, c.normal-place.ensures, above)

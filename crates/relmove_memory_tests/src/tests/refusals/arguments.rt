@@ -1,17 +1,17 @@
 //! What the arguments of a call mean.
 use super::marks::{begin, end};
 use crate::tests::same;
-use relmove_lib::{Command, WrongCall, command_of};
+use relmove_lib::{Task, WrongCall, task_of};
 use std::alloc::Global;
 use std::test::Fail;
 
 // A call whose root is expected.
 fn has_root(alloc: Global, words: &[&str]) -> Result<(), Fail> {
     begin(alloc);
-    let answer = command_of(alloc, words);
+    let answer = task_of(alloc, words);
     end(alloc, answer == Err(WrongCall::OutOfMemory))?;
     match answer {
-        Ok(Command::Check { root, .. }) | Ok(Command::Move { root, .. }) => {
+        Ok(Task::Check { root, .. }) | Ok(Task::Move { root, .. }) => {
             same("the root", &root, &"docs")
         }
         Ok(_) => Err(Fail::new("another command")),

@@ -3,39 +3,34 @@ use super::marks::{begin, end};
 use crate::tests::same;
 use relative_path::RelativePath;
 use relative_path_links::{Markdown, SitePage};
-use relmove_plan::{Entry, Kind, NameRule, Plan, Refusal, Tree, make_plan};
-use std::alloc::Global;
+use relative_path_places::NormalPath;
+use relmove_plan::{Entry, Kind, NameRule, Plan, Refusal, SiteTree, make_plan};
+use std::alloc::{AllocError, Global};
 use std::test::Fail;
 
-// The entries of a tree: a page, and a file of a directory.
-fn entries<'a>() -> [Entry<'a>; 3] {
-    [
-        Entry {
-            path: RelativePath::new("a.md"),
-            kind: Kind::File,
-        },
-        Entry {
-            path: RelativePath::new("d"),
-            kind: Kind::Directory {
-                has_foreign_name: false,
-                is_read: true,
-            },
-        },
-        Entry {
-            path: RelativePath::new("d/b.md"),
-            kind: Kind::File,
-        },
-    ]
+// An entry of a tree.
+fn entry<'a>(alloc: Global, path: &str, kind: Kind<'a>) -> Result<Entry<'a>, AllocError> {
+    let path = NormalPath::of(alloc, RelativePath::new(path))?;
+    Ok(Entry { path, kind })
 }
 
-// The plan of a move of the file, between two marks. The page has this text.
-fn planned(alloc: Global, text: &str, new: &str) -> Result<Result<Plan, Refusal>, Fail> {
+// The plan of a move of a file of a directory, between two marks. The tree has a page with this text too.
+fn planned<'a>(alloc: Global, text: &str, new: &'a str) -> Result<Result<Plan<'a>, Refusal>, Fail> {
+    let directory = Kind::Directory {
+        has_foreign_name: false,
+        is_read: true,
+    };
+    let entries = [
+        entry(alloc, "a.md", Kind::File)?,
+        entry(alloc, "d", directory)?,
+        entry(alloc, "d/b.md", Kind::File)?,
+    ];
     let pages = [SitePage {
-        path: RelativePath::new("a.md"),
+        path: &entries[0].path,
         text,
     }];
-    let tree = Tree {
-        entries: &entries(),
+    let tree = SiteTree {
+        entries: &entries,
         pages: &pages,
     };
     let moves = [(RelativePath::new("d/b.md"), RelativePath::new(new))];
@@ -45,23 +40,22 @@ fn planned(alloc: Global, text: &str, new: &str) -> Result<Result<Plan, Refusal>
     Ok(answer)
 }
 
-// Requests: 1s 4 488 1s 1 2s 6 2s 6 2s 6 2s 6 488 1s 2s 6 2s 6 32 2s 6 488 1s 2s 6 2s 6 72 1s 4 1s 1 2s 6 7 1s 4 488 1s
-// 1 2s 6 2s 6 1s 1 2s 6 1s 1 80 11 96 648 64 96 96 1s 1s 4 88 6 6 2s 6 7 7 6 11 11 96 648 64 96 96 1s 1s 9 18 1s 10 1s
-// 4 488 2s 6 2s 6 10 192 10 192 2s 6 488 1s 4 9 18 1s 10 4 10 11 288 9 18 1s 10 10 10 96 9 18 1s 10 4 10 10 144 32 2s 6
-// 488 1s 1s 10 2s 6 64 1s 1 1 368 1s 1s 1 96 2s 6 64 1s 1 368 7 1s = 28
+// Requests: 4 488 1 6 80 2s 6 2s 6 6 488 6 488 72 4 1 7 4 488 1 6 80 11 96 648 64 96 96 1s 4 88 6 6 2s 6 7 7 6 11 11
+// 96 648 64 96 96 1s 1s 9 18 1s 10 4 488 6 6 10 192 10 192 4 9 18 1s 10 4 10 11 288 9 18 1s 10 10 10 96 9 18 1s 10 4
+// 10 10 144 80 6 1s 10 6 488 64 1 368 1s 1s 1 96 64 1 368 7 1s = 33
 #[test]
 fn a_plan_with_a_page_that_changes(rt: HostRuntime) -> Result<(), Fail> {
     match planned(rt.alloc(), "[b](d/b.md)", "e/b.md")? {
         Ok(plan) => {
             let page = plan.pages.first().ok_or("a page")?;
             same("the page", &page.text.as_deref(), &Some("[b](e/b.md)"))?;
-            same("renames", &plan.steps.apart.len(), &3)
+            same("renames", &plan.actions.staged.len(), &3)
         }
         Err(refusal) => same("a refusal", &refusal, &Refusal::OutOfMemory),
     }
 }
 
-// Requests: 1s 4 488 1s 1 2s 6 2s 6 1s 4 2s 6 488 1s 1s 4 2s 6 32 1s 4 488 1s 2s 6 1s 4 1s 4 = 0
+// Requests: 4 488 1 6 80 2s 6 1s 4 6 488 4 488 4 = 0
 #[test]
 fn a_move_that_is_refused(rt: HostRuntime) -> Result<(), Fail> {
     match planned(rt.alloc(), "", "a.md")? {

@@ -4,6 +4,7 @@ use Rattle.std.proofs.lemmas.List.{length-take-le, length_push}
 use Rattle.std.proofs.lemmas.Slice.Zip.{zip_turn}
 use Rattle.std.specs.Iterator.Adapters.{zip_first, zip_second}
 use Rattle.std.specs.Slice.Iter.{iter_rest}
+use Rattle.relative_path.specs.Steps.{components}
 use Rattle.relative_path_links.specs.declared.site.MovedSitePage.{MovedSitePage}
 use Rattle.relative_path_links.specs.declared.site.SitePage.{SitePage}
 use Rattle.relative_path_places.specs.PlaceIndex.{path_at}
@@ -57,11 +58,12 @@ loop-page-preserved-then-is_some c =
       count = rw (length_push c.loop-page.yielded (c.in-Some.page, c.in-Some.new))
           (ap (λ n. n + 1) count
           ∙ sym (count_changed-more pages news c.requires i page new here.0 (here.2 page) (here.3 new) changes));
-      has = Indexes-next paths c.loop-page.number _ c.insert.new.self within
+      has = Indexes-next paths c.loop-page.number (components page.path.now) c.insert_normal.new.self within
           (ap (path_at paths) count
           ∙ path_at-changed_paths pages news c.requires i page new here.0 (here.2 page) (here.3 new) changes)
-          (c.in_ok-insert.ensures.indexes (take c.loop-page.number paths) c.loop-page.invariant.has
-          (length-take-le c.loop-page.number paths (omega (arith, within))));
+          (c.in_ok-insert_normal.ensures.indexes (take c.loop-page.number paths) (components page.path.now)
+          c.loop-page.invariant.has (length-take-le c.loop-page.number paths (omega (arith, within)))
+          c.in_ok-path.ensures.normal);
     }
 
 pub loop-page-preserved : goal.loop-page-preserved

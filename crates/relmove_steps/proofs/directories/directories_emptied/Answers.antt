@@ -1,22 +1,53 @@
 -- Each move adds the directories above its old path. Those that are left are turned round.
-use Rattle.std.proofs.Common.{ap, string_bytes}
+use Rattle.std.proofs.Common.{◌<◌, Global, List, ap, arith, length, map, string_bytes, subst}
+use Rattle.std.specs.Prelude.{⊤}
 use Rattle.std.proofs.lemmas.Result.{IfOk-weaker}
-use Rattle.relative_path_moves.specs.Moves.{moves_of}
-use Rattle.relmove_checks.proofs.ForCallers.{length-moves_of, move_at-moves_of}
-use Rattle.relmove_steps.specs.Directories.{IsLeftByMove}
-use Rattle.relmove_steps.proofs.DirectoriesLemmas.{All-reverse}
+use Rattle.relative_path.specs.Steps.{Step}
+use Rattle.relative_path_moves.specs.Moves.{move_at, written_moves}
+use Rattle.relmove_checks.proofs.ForCallers.{length-written, move_at-written}
+use Rattle.relmove_steps.specs.Directories.{HasLeft, IsDirectoryAbove, IsLeftByMove}
+use Rattle.relmove_steps.proofs.DirectoriesLemmas.{All-reverse, AreAllLeft-reverse, HasLeft-more}
+use borrow.Author.Count.{below_more}
 use Rattle.relmove_steps.proofs.directories.directories_emptied.Goals as goal
 
-pub loop-old-preserved : goal.loop-old-preserved
-loop-old-preserved c =
-    let moves = c.args.moves.now in
-    let k = c.loop-old.old-index in
-    c.in_ok-add_left.ensures (moves_of moves) k (rw (length-moves_of moves) c.loop-old-test.true)
-    (ap (λ move. move.old) (move_at-moves_of moves k _ c.loop-old-test.true)) c.loop-old.invariant
+pub loop-a-preserved : goal.loop-a-preserved
+loop-a-preserved c =
+    let moves = written_moves c.args.moves.now in
+    let k = c.loop-a.a-index in
+    let before = map (string_bytes {Z = Global}) c.loop-a.left.keys in
+    let now = map (string_bytes {Z = Global}) c.add_left.new.left.keys in
+    let here = ap (λ move. move.old) (move_at-written c.args.moves.now k c.a-item.result c.loop-a-test.true c.a-item.is) in
+    record {
+      left = c.in_ok-add_left.ensures.left moves k (rw (length-written c.args.moves.now) c.loop-a-test.true) here
+          c.loop-a.invariant.left;
+      all = below_more (λ j. (directory : List Step) → IsDirectoryAbove (move_at moves j).old directory
+          → HasLeft c.args.table.now now (λ text. ⊤) directory) k
+          (λ j l directory above.
+          HasLeft-more c.args.table.now before now directory c.in_ok-add_left.ensures.kept
+          (c.loop-a.invariant.all j l directory above))
+          (λ directory above.
+          c.in_ok-add_left.ensures.all directory (subst (λ cs. IsDirectoryAbove cs directory) here above));
+    }
 
 pub returns-clause-left : goal.returns-clause-left
 returns-clause-left c =
-    let moves = moves_of c.args.moves.now in
+    let moves = written_moves c.args.moves.now in
     IfOk-weaker c.from_last.result _ _
-    (λ texts is. rw is (All-reverse (λ text. IsLeftByMove c.args.tree.now moves (string_bytes text)) c.loop-new.left.keys
-    c.loop-new.invariant)) c.from_last.ensures.reversed
+    (λ texts is. rw is (All-reverse (λ text. IsLeftByMove c.args.table.now moves (string_bytes text))
+    c.remove_all_linked.new.left.keys
+    (c.in_ok-remove_all_linked.ensures.left moves c.loop-a.invariant.left))) c.from_last.ensures.reversed
+
+pub returns-clause-all : goal.returns-clause-all
+returns-clause-all c =
+    let table = c.args.table.now in
+    let moves = written_moves c.args.moves.now in
+    let first = c.loop-a.left.keys in
+    let keys = c.remove_all_linked.new.left.keys in
+    let last = c.loop-a-test.false in
+    IfOk-weaker c.from_last.result _ _
+    (λ texts is. λ apart. rw is
+    (AreAllLeft-reverse table moves c.args.news.now first keys
+    (λ k l directory above.
+    let within : k < length c.args.moves.now = rw length-written at l in
+    c.loop-a.invariant.all k (omega (arith, within, last)) directory above)
+    (c.in_ok-remove_all_linked.ensures.without apart))) c.from_last.ensures.reversed

@@ -1,7 +1,7 @@
 -- One rename to the name is pushed, and one from it.
 use Rattle.std.proofs.Common.{string_bytes, refl}
-use Rattle.relmove_steps.specs.Steps.{from_name, to_name}
-use Rattle.relmove_steps.proofs.StepsLemmas.{map_push-same}
+use Rattle.relmove_steps.specs.Actions.{from_name, to_name}
+use Rattle.relmove_steps.proofs.ActionsLemmas.{map_push-same}
 use Rattle.relmove_steps.proofs.renames.add_carried.Goals as goal
 
 pub returns : goal.returns

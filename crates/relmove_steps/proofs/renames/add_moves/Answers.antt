@@ -1,10 +1,10 @@
 -- Each turn does the next move.
 use Rattle.std.proofs.Common.{◌<◌, ◌+◌, [], Global, get_or, length, map, take, string_bytes, subst, sym, ◌∙◌, arith}
 use Rattle.std.proofs.lemmas.List.{length-map}
-use Rattle.relative_path_moves.specs.Moves.{Move, moves_of, move_at}
-use Rattle.relmove_checks.proofs.ForCallers.{EachMove-next, length-moves_of, move_at-moves_of}
+use Rattle.relative_path_moves.specs.Moves.{Move, written_moves, move_at}
+use Rattle.relmove_checks.proofs.ForCallers.{EachMove-next, length-written, move_at-written}
 use Rattle.relmove_steps.specs.NewFiles.{StaysThere}
-use Rattle.relmove_steps.specs.Steps.{DoesMove, names_left, rename_texts}
+use Rattle.relmove_steps.specs.Actions.{DoesMove, names_left, rename_texts}
 use Rattle.relmove_steps.proofs.CarryLemmas.{DoesMove-among}
 use Rattle.relmove_steps.proofs.NamesLemmas.{names_left-all, names_left-next}
 use Rattle.relmove_steps.proofs.OnceLemmas.{OnlyTheseLeave-more_moves, StaysThere-move, count_more, move_at-take_more}
@@ -15,48 +15,50 @@ use Rattle.relmove_steps.proofs.renames.add_moves.Goals as goal
 
 pub loop-number-preserved : goal.loop-number-preserved
 loop-number-preserved c =
-    let steps = rename_texts c.loop-number.renames in
+    let actions = rename_texts c.loop-number.renames in
     let more = rename_texts c.add_move.new.renames in
     let moves = c.args.moves.now in
-    let between = c.args.between.now in
-    let within : c.loop-number.number < length c.args.between.now = rw c.requires.count c.loop-number-test.true in
-    let all = moves_of moves in
+    let staging = c.args.staging.now in
+    let within : c.loop-number.number < length c.args.staging.now = rw c.requires.count c.loop-number-test.true in
+    let all = written_moves moves in
     let k = c.loop-number.number in
-    let here = move_at-moves_of moves k _ c.loop-number-test.true in
-    let within_all : k < length all = rw (length-moves_of moves) c.loop-number-test.true in
+    let item = c.index-moves-number.result in
+    let is = c.index-moves-number.is in
+    let here = move_at-written moves k item c.loop-number-test.true is in
+    let within_all : k < length all = rw (length-written moves) c.loop-number-test.true in
     record {
       kept = c.in_ok-add_move.ensures.kept;
       moved = λ paths has.
-          EachMove-next (DoesMove paths more) moves c.loop-number.number _ c.loop-number-test.true
-          (λ j l. DoesMove-among steps more c.in_ok-add_move.ensures.among paths (move_at (moves_of moves) j)
+          EachMove-next (DoesMove paths more) moves k item c.loop-number-test.true is
+          (λ j l. DoesMove-among actions more c.in_ok-add_move.ensures.among paths (move_at (written_moves moves) j)
           (c.loop-number.invariant.moved paths has j l))
           (c.in_ok-add_move.ensures.moved paths has);
       only = λ paths only.
-          c.in_ok-add_move.ensures.only (moves_of moves) paths c.loop-number.number
-          (rw (length-moves_of moves) c.loop-number-test.true)
-          (move_at-moves_of moves c.loop-number.number _ c.loop-number-test.true)
+          c.in_ok-add_move.ensures.only (written_moves moves) paths c.loop-number.number
+          (rw (length-written moves) c.loop-number-test.true)
+          (move_at-written moves k item c.loop-number-test.true is)
           (c.loop-number.invariant.only paths only);
-      left = names_left-next (names_left (rename_texts c.args.renames.now)) (names_left steps) (names_left more)
-          c.args.between.now c.loop-number.number c.index-between-number.result c.deref.result.now within
-          c.index-between-number.is c.deref.ensures c.loop-number.invariant.left c.in_ok-add_move.ensures.left;
+      left = names_left-next (names_left (rename_texts c.args.renames.now)) (names_left actions) (names_left more)
+          c.args.staging.now c.loop-number.number c.index-staging-number.result c.deref.result.now within
+          c.index-staging-number.is c.deref.ensures c.loop-number.invariant.left c.in_ok-add_move.ensures.left;
       texts = c.in_ok-add_move.ensures.texts ∙ c.loop-number.invariant.texts;
       so_far = λ none.
           let long = count_more all k within_all in
           c.in_ok-add_move.ensures.only (take (k + 1) all) [] k (omega (arith, long))
           (move_at-take_more all k within_all ∙ here)
-          (OnlyTheseLeave-more_moves all k within_all [] steps (c.loop-number.invariant.so_far none));
+          (OnlyTheseLeave-more_moves all k within_all [] actions (c.loop-number.invariant.so_far none));
       once = λ apart none.
           c.in_ok-add_move.ensures.once
-          (subst (λ (move : Move). StaysThere move.old steps) here
-          (StaysThere-move all k within_all steps apart (c.loop-number.invariant.texts ∙ none.texts)
+          (subst (λ (move : Move). StaysThere move.old actions) here
+          (StaysThere-move all k within_all actions apart (c.loop-number.invariant.texts ∙ none.texts)
           (c.loop-number.invariant.so_far none)))
           (c.loop-number.invariant.once apart none);
-      named = below_more (λ j. LeavesTo more (move_at (moves_of moves) j).old (get_or (map string_bytes between) j []))
+      named = below_more (λ j. LeavesTo more (move_at (written_moves moves) j).old (get_or (map string_bytes staging) j []))
           c.loop-number.number
-          (λ j l. LeavesTo-among steps more c.in_ok-add_move.ensures.among (move_at (moves_of moves) j).old
-          (get_or (map string_bytes between) j []) (c.loop-number.invariant.named j l))
-          (LeavesTo-here more moves _ between c.loop-number.number c.index-between-number.result c.deref.result.now
-          c.loop-number-test.true within c.index-between-number.is c.deref.ensures c.in_ok-add_move.ensures.named);
+          (λ j l. LeavesTo-among actions more c.in_ok-add_move.ensures.among (move_at (written_moves moves) j).old
+          (get_or (map string_bytes staging) j []) (c.loop-number.invariant.named j l))
+          (LeavesTo-here more moves item staging k c.index-staging-number.result c.deref.result.now
+          c.loop-number-test.true is within c.index-staging-number.is c.deref.ensures c.in_ok-add_move.ensures.named);
     }
 
 pub returns-clause-left : goal.returns-clause-left
@@ -64,15 +66,15 @@ returns-clause-left c =
     let count = c.requires.count in
     let last = c.loop-number-test.false in
     names_left-all (names_left (rename_texts c.args.renames.now)) (names_left (rename_texts c.loop-number.renames))
-    c.args.between.now c.loop-number.number (omega (arith, count, last)) c.loop-number.invariant.left
+    c.args.staging.now c.loop-number.number (omega (arith, count, last)) c.loop-number.invariant.left
 
 pub returns-clause-named : goal.returns-clause-named
 returns-clause-named c =
     let moves = c.args.moves.now in
     let last = c.loop-number-test.false in
     record {
-      count = length-map c.args.between.now (string_bytes {Z = Global}) ∙ c.requires.count ∙ sym (length-moves_of moves);
+      count = length-map c.args.staging.now (string_bytes {Z = Global}) ∙ c.requires.count ∙ sym (length-written moves);
       each = λ k l.
-          let within : k < length moves = rw length-moves_of at l in
+          let within : k < length moves = rw length-written at l in
           c.loop-number.invariant.named k (omega (arith, within, last));
     }

@@ -2,9 +2,9 @@
 use Rattle.std.proofs.Common.{◌++◌, ◌∷◌, [], sym, ap, subst, string_bytes, ◌∙◌}
 use Rattle.relative_path.specs.Normalizing.{IsNormalTextOf}
 use Rattle.relative_path_places.specs.PlaceIndex.{path_at}
-use Rattle.relmove_steps.specs.Steps.{LosesNothing, OnlyTheseLeave, StepTexts, of_page, RemovesAt, names_left, old_paths, rename_texts, with_removed}
+use Rattle.relmove_steps.specs.Actions.{LosesNothing, OnlyTheseLeave, ActionTexts, of_page, RemovesAt, names_left, old_paths, rename_texts, with_removed}
 use Rattle.relmove_steps.specs.NewFiles.{LeaveOnce, LeavesToo}
-use Rattle.relmove_steps.proofs.StepsLemmas.{LosesNothing-with_removed, names_left-push}
+use Rattle.relmove_steps.proofs.ActionsLemmas.{LosesNothing-with_removed, names_left-push}
 use Rattle.relmove_steps.proofs.CarryLemmas.{RemovesAt-moved, RemovesAt-with_removed, found-none}
 use Rattle.relmove_steps.proofs.NamesLemmas.{AreDrawn-next}
 use Rattle.relmove_steps.proofs.OnlyLemmas.{OnlyTheseLeave-with_removed}
@@ -32,11 +32,11 @@ returns-clause-removed c = λ moves cs has is each.
 
 pub returns-clause-free : goal.returns-clause-free
 returns-clause-free c = λ index drawn.
-    let steps = rename_texts c.args.renames.now in
+    let actions = rename_texts c.args.renames.now in
     let left = ap names_left c.in_ok-add_removed.ensures
-    ∙ names_left-push steps (string_bytes c.into_string-from.result) c.deref.result.now in
+    ∙ names_left-push actions (string_bytes c.into_string-from.result) c.deref.result.now in
     rw (left, c.deref.ensures)
-    (AreDrawn-next index c.args.names.now c.in_root.new.self (names_left steps) _ c.in_ok-name.ensures.drawn drawn)
+    (AreDrawn-next index c.args.names.now c.in_root.new.self (names_left actions) _ c.in_ok-name.ensures.drawn drawn)
 
 pub returns-clause-only : goal.returns-clause-only
 returns-clause-only c = λ moves paths k l is only.
@@ -52,29 +52,29 @@ returns-then-is_some-clause-leaves c = LeavesToo-same c.args.page (rename_texts 
 
 pub returns-clause-leaves : goal.returns-clause-leaves
 returns-clause-leaves c =
-    let steps = rename_texts c.args.renames.now in
+    let actions = rename_texts c.args.renames.now in
     let from = string_bytes c.into_string-from.result in
     let from_is = c.into_string-from.ensures.text ∙ c.into_relative_path_buf.ensures.text in
-    subst (λ all. LeavesToo c.args.page steps all) (sym c.in_ok-add_removed.ensures)
-    (subst (λ page. LeavesToo page steps (with_removed steps from c.deref.result.now)) from_is
-    (LeavesToo-with_removed from c.deref.result.now steps))
+    subst (λ all. LeavesToo c.args.page actions all) (sym c.in_ok-add_removed.ensures)
+    (subst (λ page. LeavesToo page actions (with_removed actions from c.deref.result.now)) from_is
+    (LeavesToo-with_removed from c.deref.result.now actions))
 
 pub returns-clause-once : goal.returns-clause-once
 returns-clause-once c = λ moves cs has is stays once.
-    let steps = rename_texts c.args.renames.now in
+    let actions = rename_texts c.args.renames.now in
     let from = string_bytes c.into_string-from.result in
     let from_is : IsNormalTextOf cs from =
     rw (c.into_string-from.ensures.text, c.into_relative_path_buf.ensures.text) is in
     let none = found-none (old_paths moves) cs c.get.result (cc) (c.get.ensures.found (old_paths moves) cs has is.same) in
     subst LeaveOnce (sym c.in_ok-add_removed.ensures)
-    (LeaveOnce-with_removed steps cs from c.deref.result.now from_is (stays none) once)
+    (LeaveOnce-with_removed actions cs from c.deref.result.now from_is (stays none) once)
 
 pub returns-clause-files : goal.returns-clause-files
 returns-clause-files c = λ index paths files.
-    let steps = rename_texts c.args.renames.now in
+    let actions = rename_texts c.args.renames.now in
     let name = c.deref.result.now in
     let left = ap names_left c.in_ok-add_removed.ensures
-    ∙ names_left-push steps (string_bytes c.into_string-from.result) name
-    ∙ ap (λ name. names_left steps ++ name ∷ []) c.deref.ensures in
-    AreFilesDrawn-name index paths c.args.names.now c.in_root.new.self steps (rename_texts c.add_removed.new.renames) _
-    c.in_ok-name.ensures.drawn (ap (λ (all : StepTexts). all.texts) c.in_ok-add_removed.ensures) left files
+    ∙ names_left-push actions (string_bytes c.into_string-from.result) name
+    ∙ ap (λ name. names_left actions ++ name ∷ []) c.deref.ensures in
+    AreFilesDrawn-name index paths c.args.names.now c.in_root.new.self actions (rename_texts c.add_removed.new.renames) _
+    c.in_ok-name.ensures.drawn (ap (λ (all : ActionTexts). all.texts) c.in_ok-add_removed.ensures) left files

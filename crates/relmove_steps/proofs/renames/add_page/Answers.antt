@@ -1,10 +1,9 @@
 -- The new text is written, the old text is removed, and the new text is carried.
 use Rattle.std.proofs.Common.{◌≡◌, ◌++◌, ◌∷◌, [], take, Contains, refl, sym, ap, subst, string_bytes, ◌∙◌, arith}
-use Rattle.relative_path.specs.RelativePath.{path_components}
-use Rattle.relmove_steps.specs.Steps.{AreAmong, LosesNothing, OnlyTheseLeave, StepTexts, of_text, RemovesAt, ReplacesPage, names_left, rename_texts, with_carried, with_text}
+use Rattle.relmove_steps.specs.Actions.{AreAmong, LosesNothing, OnlyTheseLeave, ActionTexts, of_text, RemovesAt, ReplacesPage, names_left, rename_texts, with_carried, with_text}
 use Rattle.relmove_steps.specs.NewFiles.{AreFilesDrawn, LeaveOnce, StaysThere}
-use Rattle.relmove_steps.specs.BetweenNames.{AreDrawn, IsDrawnIn}
-use Rattle.relmove_steps.proofs.StepsLemmas.{LosesNothing-with_carried, names_left-push}
+use Rattle.relmove_steps.specs.StagingNames.{AreDrawn, IsDrawnIn}
+use Rattle.relmove_steps.proofs.ActionsLemmas.{LosesNothing-with_carried, names_left-push}
 use Rattle.relmove_steps.proofs.CarryLemmas.{AreAmong-page, AreAmong-with_carried, AreAmong-with_text, RemovesAt-among, RemovesMoved-among, ReplacesPage-carried, with_text-same}
 use Rattle.relmove_steps.proofs.NamesLemmas.{AreDrawn-later, AreDrawn-next}
 use Rattle.relmove_steps.proofs.OnlyLemmas.{OnlyTheseLeave-with_carried, OnlyTheseLeave-with_text}
@@ -28,15 +27,15 @@ returns-clause-kept c =
 pub returns-clause-among : goal.returns-clause-among
 returns-clause-among c =
     let before = rename_texts c.args.renames.now in
-    let steps = rename_texts c.add_old_text.new.renames in
+    let actions = rename_texts c.add_old_text.new.renames in
     subst (AreAmong before) (sym c.in_ok-add_carried.ensures)
-    (AreAmong-page before steps _ _ _ _ _ _
-    (subst (λ some. AreAmong some steps) c.in_ok-add_text.ensures c.in_ok-add_old_text.ensures.among))
+    (AreAmong-page before actions _ _ _ _ _ _
+    (subst (λ some. AreAmong some actions) c.in_ok-add_text.ensures c.in_ok-add_old_text.ensures.among))
 
 pub returns-clause-replaced : goal.returns-clause-replaced
 returns-clause-replaced c =
     let before = rename_texts c.args.renames.now in
-    let steps = rename_texts c.add_old_text.new.renames in
+    let actions = rename_texts c.add_old_text.new.renames in
     let page = c.args.page in
     let new = c.args.new.now in
     let old = c.in_ok-old.old in
@@ -47,28 +46,28 @@ returns-clause-replaced c =
     let text = c.args.text.now in
     let text_is : rename_texts c.add_text.new.renames ≡ with_text before old file text =
     c.in_ok-add_text.ensures ∙ with_text-same before _ old _ file _ text page_is c.deref.ensures refl in
-    let carried : rename_texts c.add_carried.new.renames ≡ with_carried steps file name new.path =
-    c.in_ok-add_carried.ensures ∙ ap (with_carried steps file name) to_is in
+    let carried : rename_texts c.add_carried.new.renames ≡ with_carried actions file name new.path =
+    c.in_ok-add_carried.ensures ∙ ap (with_carried actions file name) to_is in
     subst (λ all. ReplacesPage all page new text) (sym carried)
-    (ReplacesPage-carried before steps page new old file text name c.in_ok-old.ensures
-    (subst (λ some. AreAmong some steps) text_is c.in_ok-add_old_text.ensures.among))
+    (ReplacesPage-carried before actions page new old file text name c.in_ok-old.ensures.normal
+    (subst (λ some. AreAmong some actions) text_is c.in_ok-add_old_text.ensures.among))
 
 pub returns-clause-removed : goal.returns-clause-removed
 returns-clause-removed c = λ moves has each.
     let before = rename_texts c.args.renames.now in
     let written = rename_texts c.add_text.new.renames in
-    let steps = rename_texts c.add_old_text.new.renames in
-    let cs = path_components c.args.page.path in
+    let actions = rename_texts c.add_old_text.new.renames in
+    let cs = components c.args.page.path.now in
     let more = subst (AreAmong before) (sym c.in_ok-add_text.ensures) (AreAmong-with_text before _ _ _) in
     subst (λ all. RemovesAt all cs) (sym c.in_ok-add_carried.ensures)
-    (RemovesAt-among steps _ (AreAmong-with_carried steps _ _ _) cs
-    (c.in_ok-add_old_text.ensures.removed moves cs has c.in_ok-old.ensures
+    (RemovesAt-among actions _ (AreAmong-with_carried actions _ _ _) cs
+    (c.in_ok-add_old_text.ensures.removed moves cs has c.in_ok-old.ensures.normal
     (RemovesMoved-among before written more moves cs each)))
 
 pub returns-clause-free : goal.returns-clause-free
 returns-clause-free c = λ index drawn.
     let before = rename_texts c.args.renames.now in
-    let steps = rename_texts c.add_old_text.new.renames in
+    let actions = rename_texts c.add_old_text.new.renames in
     let late = c.in_ok-file.ensures.drawn.late in
     let next = c.in_ok-file.ensures.drawn.next in
     let written = AreDrawn-later index c.args.names.now c.in_directory.new.self
@@ -76,15 +75,15 @@ returns-clause-free c = λ index drawn.
     let removed = c.in_ok-add_old_text.ensures.free index
     (subst (AreDrawn index c.in_directory.new.self) (sym (ap names_left c.in_ok-add_text.ensures)) written) in
     let left = ap names_left c.in_ok-add_carried.ensures
-    ∙ names_left-push steps (string_bytes c.in_ok-file.file) c.deref-2.result.now in
+    ∙ names_left-push actions (string_bytes c.in_ok-file.file) c.deref-2.result.now in
     rw (left, c.deref-2.ensures)
     (AreDrawn-next index c.add_old_text.new.names c.in_root.new.self
-    (names_left steps) _ c.in_ok-name.ensures.drawn removed)
+    (names_left actions) _ c.in_ok-name.ensures.drawn removed)
 
 pub returns-clause-only : goal.returns-clause-only
 returns-clause-only c = λ moves paths k l here only.
     let before = rename_texts c.args.renames.now in
-    let steps = rename_texts c.add_old_text.new.renames in
+    let actions = rename_texts c.add_old_text.new.renames in
     let page = c.as_str-normal.result.now in
     let file = string_bytes c.in_ok-file.file in
     let text = c.args.text.now in
@@ -92,18 +91,18 @@ returns-clause-only c = λ moves paths k l here only.
     c.in_ok-add_text.ensures ∙ with_text-same before _ page _ file _ text refl c.deref.ensures refl in
     let written = subst (OnlyTheseLeave moves paths) (sym written_is)
     (OnlyTheseLeave-with_text moves paths before page file text only) in
-    let removed = c.in_ok-add_old_text.ensures.only moves paths k l (rw here c.in_ok-old.ensures) written in
-    let has : Contains steps.texts (page, file, text) =
+    let removed = c.in_ok-add_old_text.ensures.only moves paths k l (rw here c.in_ok-old.ensures.normal) written in
+    let has : Contains actions.texts (page, file, text) =
     c.in_ok-add_old_text.ensures.among.texts (page, file, text)
     (subst (λ all. Contains all.texts (page, file, text)) (sym written_is) (Contains-push before.texts (page, file, text))) in
     subst (OnlyTheseLeave moves paths) (sym c.in_ok-add_carried.ensures)
-    (OnlyTheseLeave-with_carried moves paths steps file c.deref-2.result.now (string_bytes c.in_ok-to.to)
+    (OnlyTheseLeave-with_carried moves paths actions file c.deref-2.result.now (string_bytes c.in_ok-to.to)
     (of_text page text has) removed)
 
 pub returns-clause-files : goal.returns-clause-files
 returns-clause-files c = λ index paths k l here drawn files.
     let before = rename_texts c.args.renames.now in
-    let steps = rename_texts c.add_old_text.new.renames in
+    let actions = rename_texts c.add_old_text.new.renames in
     let old = c.in_ok-old.old in
     let file = string_bytes c.in_ok-file.file in
     let text = c.args.text.now in
@@ -112,23 +111,23 @@ returns-clause-files c = λ index paths k l here drawn files.
     let written_is : rename_texts c.add_text.new.renames ≡ with_text before old file text =
     c.in_ok-add_text.ensures ∙ with_text-same before _ old _ file _ text page_is c.deref.ensures refl in
     let drawn_in : IsDrawnIn (directory (components old)) c.args.names.now names file =
-    subst (λ cs. IsDrawnIn cs c.args.names.now names file) c.directory.ensures.components c.in_ok-file.ensures.drawn in
+    subst (λ cs. IsDrawnIn cs c.args.names.now names file) c.directory.ensures c.in_ok-file.ensures.drawn in
     let written = AreFilesDrawn-file index paths c.args.names.now names before old file text drawn_in
-    c.in_ok-old.ensures.normal_text (k, l, rw here c.in_ok-old.ensures) drawn files in
+    c.in_ok-old.ensures.normal.normal_text (k, l, rw here c.in_ok-old.ensures.normal) drawn files in
     let removed = c.in_ok-add_old_text.ensures.files index paths
     (subst (AreFilesDrawn index paths names) (sym written_is) written) in
-    let left = ap names_left c.in_ok-add_carried.ensures ∙ names_left-push steps file c.deref-2.result.now
-    ∙ ap (λ name. names_left steps ++ name ∷ []) c.deref-2.ensures in
-    AreFilesDrawn-name index paths c.add_old_text.new.names c.in_root.new.self steps
+    let left = ap names_left c.in_ok-add_carried.ensures ∙ names_left-push actions file c.deref-2.result.now
+    ∙ ap (λ name. names_left actions ++ name ∷ []) c.deref-2.ensures in
+    AreFilesDrawn-name index paths c.add_old_text.new.names c.in_root.new.self actions
     (rename_texts c.add_carried.new.renames) _ c.in_ok-name.ensures.drawn
-    (ap (λ (all : StepTexts). all.texts) c.in_ok-add_carried.ensures) left removed
+    (ap (λ (all : ActionTexts). all.texts) c.in_ok-add_carried.ensures) left removed
 
 pub returns-clause-once : goal.returns-clause-once
 returns-clause-once c = λ index entries paths moves k has has_olds leave l here drawn files only once.
     let before = rename_texts c.args.renames.now in
     let written = rename_texts c.add_text.new.renames in
-    let steps = rename_texts c.add_old_text.new.renames in
-    let cs = path_components c.args.page.path in
+    let actions = rename_texts c.add_old_text.new.renames in
+    let cs = components c.args.page.path.now in
     let old = c.in_ok-old.old in
     let file = string_bytes c.in_ok-file.file in
     let text = c.args.text.now in
@@ -137,20 +136,20 @@ returns-clause-once c = λ index entries paths moves k has has_olds leave l here
     let written_is : written ≡ with_text before old file text =
     c.in_ok-add_text.ensures ∙ with_text-same before _ old _ file _ text page_is c.deref.ensures refl in
     let drawn_in : IsDrawnIn (directory (components old)) c.args.names.now names file =
-    subst (λ cs. IsDrawnIn cs c.args.names.now names file) c.directory.ensures.components c.in_ok-file.ensures.drawn in
-    let old_is : IsNormalTextOf (path_at paths k) old = rw here c.in_ok-old.ensures in
+    subst (λ cs. IsDrawnIn cs c.args.names.now names file) c.directory.ensures c.in_ok-file.ensures.drawn in
+    let old_is : IsNormalTextOf (path_at paths k) old = rw here c.in_ok-old.ensures.normal in
     let own = files.own entries has in
     let no_page : IsNoneAt (take k paths) cs =
     subst (IsNoneAt (take k paths)) here (IsNoneAt-take paths k leave.distinct l) in
     let entry : ¬ IsNoneAt entries cs = subst (λ path. ¬ IsNoneAt entries path) here (leave.pages_there k l) in
-    let removed = c.in_ok-add_old_text.ensures.once moves cs has_olds c.in_ok-old.ensures
+    let removed = c.in_ok-add_old_text.ensures.once moves cs has_olds c.in_ok-old.ensures.normal
     (λ none. subst (StaysThere cs) (sym written_is)
     (StaysThere-page entries (take k paths) moves before cs none no_page entry own.unused only))
     (subst LeaveOnce (sym written_is) once) in
     let others = file-leaves entries file (drawn_in.unused entries (subst (Indexes entries) (sym drawn.entries) has)) paths
-    moves before written steps k c.args.names.now.next drawn_in.number old (directory (components old)) l leave
+    moves before written actions k c.args.names.now.next drawn_in.number old (directory (components old)) l leave
     files.numbered drawn_in.late drawn_in.fits
-    (components-next_to old file drawn_in.number drawn_in.fits c.in_ok-old.ensures.normal_text drawn_in.file_of) only
-    (ap (λ (all : StepTexts). all.apart) written_is) old_is c.in_ok-add_old_text.ensures.leaves in
+    (components-next_to old file drawn_in.number drawn_in.fits c.in_ok-old.ensures.normal.normal_text drawn_in.file_of) only
+    (ap (λ (all : ActionTexts). all.staged) written_is) old_is c.in_ok-add_old_text.ensures.leaves in
     subst LeaveOnce (sym c.in_ok-add_carried.ensures)
-    (LeaveOnce-with_file steps file c.deref-2.result.now (string_bytes c.in_ok-to.to) others removed)
+    (LeaveOnce-with_file actions file c.deref-2.result.now (string_bytes c.in_ok-to.to) others removed)

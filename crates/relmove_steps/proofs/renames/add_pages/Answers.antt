@@ -7,7 +7,7 @@ use Rattle.std.specs.Slice.Iter.{iter_rest}
 use Rattle.relative_path_links.specs.declared.site.MovedSitePage.{MovedSitePage}
 use Rattle.relative_path_links.specs.declared.site.SitePage.{SitePage}
 use Rattle.relmove_steps.specs.Pages.{changed_paths}
-use Rattle.relmove_steps.specs.Steps.{RemovesAt, ReplacesChanged, ReplacesPage, rename_texts}
+use Rattle.relmove_steps.specs.Actions.{RemovesAt, ReplacesChanged, ReplacesPage, rename_texts}
 use Rattle.relmove_steps.proofs.CarryLemmas.{All-RemovesAt-next, All-taken, AreAmong-trans, RemovesMoved-among, RemovesMoved-each, ReplacesPages-among}
 use Rattle.relmove_steps.proofs.NewFilesLemmas.{WritesPages-next}
 use Rattle.relmove_steps.proofs.OnceLemmas.{OnlyTheseLeave-more_pages}
@@ -34,7 +34,7 @@ turn c =
 
 pub loop-page-preserved-in-Continue-1 : goal.loop-page-preserved-in-Continue-1
 loop-page-preserved-in-Continue-1 c =
-    let steps = rename_texts c.loop-page.renames in
+    let actions = rename_texts c.loop-page.renames in
     let more = rename_texts c.add_page.new.renames in
     let before = rename_texts c.args.renames.now in
     let pages = c.args.pages.now in
@@ -53,18 +53,18 @@ loop-page-preserved-in-Continue-1 c =
     let next = count_changed-more pages news c.requires.long i page new one.0 is is_2 changes in
     rw (length_push c.loop-page.yielded (c.in-Some.page, c.in-Some.new)) (record {
       kept = c.in_ok-add_page.ensures.kept;
-      among = AreAmong-trans before steps more c.loop-page.invariant.among c.in_ok-add_page.ensures.among;
+      among = AreAmong-trans before actions more c.loop-page.invariant.among c.in_ok-add_page.ensures.among;
       replaced = AllZip-next_page pages news c.requires.long i page new one.0 is is_2 (ReplacesChanged more)
-          (ReplacesPages-among steps more c.in_ok-add_page.ensures.among (take i pages) (take i news)
+          (ReplacesPages-among actions more c.in_ok-add_page.ensures.among (take i pages) (take i news)
           c.loop-page.invariant.replaced)
           (subst (λ (found : Option (String Global)). IfSome found (λ text. ReplacesPage more page new (string_bytes text)))
           (sym c.in-Some-text.is)
           (subst (ReplacesPage more page new) c.deref.ensures c.in_ok-add_page.ensures.replaced));
       removed = λ moves has does.
           rw next
-          (All-RemovesAt-next paths steps more k _ c.in_ok-add_page.ensures.among within here
+          (All-RemovesAt-next paths actions more k _ c.in_ok-add_page.ensures.among within here
           (c.in_ok-add_page.ensures.removed moves has
-          (RemovesMoved-among before steps c.loop-page.invariant.among moves _
+          (RemovesMoved-among before actions c.loop-page.invariant.among moves _
           (RemovesMoved-each paths moves before k _ within here does)))
           (c.loop-page.invariant.removed moves has does));
       only = λ moves only.
@@ -75,7 +75,7 @@ loop-page-preserved-in-Continue-1 c =
           (c.loop-page.invariant.files index drawn files);
       texts = λ none.
           rw next
-          (WritesPages-next paths k _ steps more within here c.in_ok-add_page.ensures.texts
+          (WritesPages-next paths k _ actions more within here c.in_ok-add_page.ensures.texts
           (c.loop-page.invariant.texts none));
       so_far = λ moves only.
           let long = length-take-le (k + 1) paths (omega (arith, within)) in
@@ -83,7 +83,7 @@ loop-page-preserved-in-Continue-1 c =
           let same = get_or-take (k + 1) paths k [] (omega arith) in
           rw next
           (c.in_ok-add_page.ensures.only moves (take (k + 1) paths) k within_2 (same ∙ here)
-          (OnlyTheseLeave-more_pages moves paths k steps within (c.loop-page.invariant.so_far moves only)));
+          (OnlyTheseLeave-more_pages moves paths k actions within (c.loop-page.invariant.so_far moves only)));
       once = λ index entries moves has has_olds leave drawn files only once.
           c.in_ok-add_page.ensures.once index entries paths moves k has has_olds leave within here
           (c.loop-page.invariant.free index drawn) (c.loop-page.invariant.files index drawn files)
@@ -93,7 +93,7 @@ loop-page-preserved-in-Continue-1 c =
 
 pub loop-page-preserved : goal.loop-page-preserved
 loop-page-preserved c =
-    let steps = rename_texts c.loop-page.renames in
+    let actions = rename_texts c.loop-page.renames in
     let pages = c.args.pages.now in
     let news = c.args.news.now in
     let page = c.in-Some.page.now in
@@ -106,7 +106,7 @@ loop-page-preserved c =
     rw (length_push c.loop-page.yielded (c.in-Some.page, c.in-Some.new)) (record {
       kept = c.loop-page.invariant.kept;
       among = c.loop-page.invariant.among;
-      replaced = AllZip-next_page pages news c.requires.long i page new one.0 is is_2 (ReplacesChanged steps)
+      replaced = AllZip-next_page pages news c.requires.long i page new one.0 is is_2 (ReplacesChanged actions)
           c.loop-page.invariant.replaced (rw c.in_default.is tt);
       removed = λ moves has does. rw next (c.loop-page.invariant.removed moves has does);
       only = c.loop-page.invariant.only;

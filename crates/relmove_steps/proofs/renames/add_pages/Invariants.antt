@@ -5,9 +5,9 @@ use Rattle.relative_path_moves.specs.Moves.{Move}
 use Rattle.relative_path_places.specs.PlaceIndex.{Indexes}
 use Rattle.relative_path_places.specs.declared.place_index.PlaceIndex.{PlaceIndex}
 use Rattle.relmove_checks.specs.Moves.{EachMove}
-use Rattle.relmove_steps.specs.Steps.{AreAmong, DoesMove, LosesNothing, OnlyTheseLeave, RemovesAt, ReplacesPages, WritesPages, names_left, old_paths, rename_texts}
+use Rattle.relmove_steps.specs.Actions.{AreAmong, DoesMove, LosesNothing, OnlyTheseLeave, RemovesAt, ReplacesPages, WritesPages, names_left, old_paths, rename_texts}
 use Rattle.relmove_steps.specs.Pages.{changed_paths}
-use Rattle.relmove_steps.specs.BetweenNames.{AreDrawn}
+use Rattle.relmove_steps.specs.StagingNames.{AreDrawn}
 use Rattle.relmove_steps.specs.NewFiles.{AreFilesDrawn, LeaveFromEntries, LeaveOnce}
 use Rattle.relmove_steps.proofs.PagesLemmas.{count_changed}
 use Rattle.relmove_steps.proofs.renames.add_pages.Given as goal

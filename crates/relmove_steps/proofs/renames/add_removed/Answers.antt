@@ -1,7 +1,7 @@
 -- One rename to the name is pushed, and the name.
 use Rattle.std.proofs.Common.{Global, string_bytes, refl}
-use Rattle.relmove_steps.specs.Steps.{to_name}
-use Rattle.relmove_steps.proofs.StepsLemmas.{map_push-same}
+use Rattle.relmove_steps.specs.Actions.{to_name}
+use Rattle.relmove_steps.proofs.ActionsLemmas.{map_push-same}
 use Rattle.relmove_steps.proofs.renames.add_removed.Goals as goal
 
 pub returns : goal.returns

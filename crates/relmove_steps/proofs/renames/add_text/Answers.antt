@@ -1,7 +1,7 @@
 -- One text is pushed.
 use Rattle.std.proofs.Common.{map, string_bytes, ap, refl}
-use Rattle.relmove_steps.specs.Steps.{from_name, new_text, to_name}
-use Rattle.relmove_steps.proofs.StepsLemmas.{map_push-same}
+use Rattle.relmove_steps.specs.Actions.{from_name, new_text, to_name}
+use Rattle.relmove_steps.proofs.ActionsLemmas.{map_push-same}
 use Rattle.relmove_steps.proofs.renames.add_text.Goals as goal
 
 pub returns : goal.returns
@@ -14,7 +14,7 @@ returns c =
     (c.args.page.now, c.args.file.now, c.args.text.now) c.in_ok-push.ensures.items (rw (page, file, text) refl) in
     ap (λ texts. record {
       texts = texts;
-      apart = map to_name c.args.renames.now.leaving.items;
-      together = map from_name c.args.renames.now.arrivals.items;
+      staged = map to_name c.args.renames.now.leaving.items;
+      placed = map from_name c.args.renames.now.arrivals.items;
       removed = map string_bytes c.args.renames.now.removed.items;
     }) written

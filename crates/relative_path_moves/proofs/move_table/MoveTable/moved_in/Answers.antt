@@ -8,26 +8,26 @@ pub returns-clause-above_root : goal.returns-clause-above_root
 returns-clause-above_root c =
     let same = rw c.directory.ensures.components at c.in_ok-meant.ensures.same in
     above_root-in c.args.self.now (path_components c.args.page) (path_components c.args.reference)
-    (path_components c.in_ok-now.now) (path_components c.target.result) c.in_ok-now.ensures.target
-    (c.target.ensures _ same) c.link_to.result (rw c.directory-2.ensures.components at c.link_to.ensures)
+    (path_components c.in_ok-now.now) (path_components c.file_of.result) c.in_ok-now.ensures.path
+    (c.file_of.ensures _ same) c.link_to.result (rw c.directory-2.ensures.components at c.link_to.ensures)
 
 pub returns-clause-no_path : goal.returns-clause-no_path
 returns-clause-no_path c =
     let same = rw c.directory.ensures.components at c.in_ok-meant.ensures.same in
     no_path-in c.args.self.now (path_components c.args.page) (path_components c.args.reference)
-    (path_components c.in_ok-now.now) (path_components c.target.result) c.in_ok-now.ensures.target
-    (c.target.ensures _ same) c.link_to.result (rw c.directory-2.ensures.components at c.link_to.ensures)
+    (path_components c.in_ok-now.now) (path_components c.file_of.result) c.in_ok-now.ensures.path
+    (c.file_of.ensures _ same) c.link_to.result (rw c.directory-2.ensures.components at c.link_to.ensures)
 
 pub returns-clause-stays : goal.returns-clause-stays
 returns-clause-stays c =
     let same = rw c.directory.ensures.components at c.in_ok-meant.ensures.same in
     stays-in c.args.self.now (path_components c.args.page) (path_components c.args.reference)
-    (path_components c.in_ok-now.now) (path_components c.target.result) c.in_ok-now.ensures.target
-    (c.target.ensures _ same) c.link_to.result (rw c.directory-2.ensures.components at c.link_to.ensures)
+    (path_components c.in_ok-now.now) (path_components c.file_of.result) c.in_ok-now.ensures.path
+    (c.file_of.ensures _ same) c.link_to.result (rw c.directory-2.ensures.components at c.link_to.ensures)
 
 pub returns-clause-shortest : goal.returns-clause-shortest
 returns-clause-shortest c =
     let same = rw c.directory.ensures.components at c.in_ok-meant.ensures.same in
     shortest-in c.args.self.now (path_components c.args.page) (path_components c.args.reference)
-    (path_components c.in_ok-now.now) (path_components c.target.result) c.in_ok-now.ensures.target
-    (c.target.ensures _ same) c.link_to.result (rw c.directory-2.ensures.components at c.link_to.ensures)
+    (path_components c.in_ok-now.now) (path_components c.file_of.result) c.in_ok-now.ensures.path
+    (c.file_of.ensures _ same) c.link_to.result (rw c.directory-2.ensures.components at c.link_to.ensures)

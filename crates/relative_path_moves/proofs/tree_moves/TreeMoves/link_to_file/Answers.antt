@@ -12,12 +12,12 @@ use Rattle.relative_path_moves.proofs.tree_moves.TreeMoves.link_to_file.Goals.{I
 taken : (c : In-Some) → (from : List Step) → IsNormalTextOf from c.args.file.now
     → AtTreePath c.args.self.now from (λ target. IsNormalTextOf target c.in-Some.now)
 taken c from normal =
-    let (target, is, at) = (rw c.in-Some.is at c.in_ok-now.ensures.target) from normal in
+    let (target, is, at) = (rw (c.in-Some.is, c.view.ensures.text) at c.in_ok-now.ensures.path) from normal in
     (target, inl is, at)
 
 left : (c : In-None) → (from : List Step) → IsNormalTextOf from c.args.file.now
     → AtTreePath c.args.self.now from (λ target. IsNormalTextOf target c.args.file.now)
-left c from normal = (from, inr ((rw c.in-None.is at c.in_ok-now.ensures.target) from normal, refl), normal)
+left c from normal = (from, inr ((rw (c.in-None.is, c.view.ensures.text) at c.in_ok-now.ensures.path) from normal, refl), normal)
 
 pub returns-in-Some-clause-stays : goal.returns-in-Some-clause-stays
 returns-in-Some-clause-stays c =

@@ -1,0 +1,4 @@
+pub mod ForCallers
+pub mod LongestLemmas
+pub mod SearchLemmas
+pub mod TableLemmas

@@ -1,0 +1,4 @@
+mod OldNamesLemmas
+mod SpansLemmas
+mod WrittenLemmas
+mod MentionsLemmas

@@ -1,0 +1,321 @@
+-- The names that a set of old paths has, and what it finds by them.
+use Rattle.std.proofs.Common.{◌≡◌, ◌⊎◌, ℕ, ◌<◌, Bool, true, false, List, [], ◌∷◌, ◌++◌, map, Option, Some, None, IsSome, unwrap_or, cond, inl, inr, refl, sym, ap, ◌∙◌, subst, true≢false, arith, append_assoc, codes, get_or, length, max, take, ◌+◌, ◌≤◌}
+use Rattle.std.specs.BTreeMap.{get_by_text}
+use Rattle.std.specs.BTreeSet.{contains_text}
+use Rattle.std.specs.List.{Contains}
+use Rattle.std.specs.Map.{update}
+use Rattle.std.specs.Str.{bytes_eq}
+use Rattle.std.proofs.lemmas.List.{flat_map_more, map-append, map_more, take_all}
+use Rattle.std.proofs.lemmas.List.Sums.{fold-append}
+use Rattle.std.proofs.lemmas.List.Elements.{Contains-append_left, Contains-append_right, Contains-append_cases, Contains-push, Contains-push_cases}
+use Rattle.std.proofs.lemmas.Option.{same_Some}
+use Rattle.std.proofs.lemmas.Slice.Eq.{bytes_eq-Decides}
+use Rattle.relative_path.specs.Steps.{Step, classed, components, dot, name as named}
+use Rattle.relative_path.specs.Editing.{kept}
+use Rattle.relative_path.specs.Naming.{file_name_of, stem_of}
+use Rattle.relative_path.specs.Walk.{IsSame}
+use Rattle.relative_path.specs.Normalizing.{IsNormalTextOf}
+use Rattle.relative_path.proofs.ForCallers.{IsSame-append_left, IsSame-last_name, IsSame-sym, IsSame-trans, last_name-IsNormalTextOf, last_name-name}
+use Rattle.relative_path_places.proofs.ForCallers.{IsNormalTextOf-same}
+use Rattle.relative_path_places.specs.Views.{view_text}
+use Rattle.relative_path_places.specs.declared.normal_view.NormalView.{NormalView}
+use Rattle.relmove_mentions.specs.Names.{is_page, most_others, names_of, page_names}
+use Rattle.relmove_mentions.specs.Spans.{others_in}
+use Rattle.relmove_mentions.specs.OldNames.{Lists, Has, Finds, with_names, all_names}
+use Rattle.relmove_mentions.specs.Written.{LeadsToPath, StandsFor}
+use Rattle.relmove_mentions.specs.declared.old_names.OldNames.{OldNames}
+
+-- ---- an insertion
+
+-- under this text the set has the path that it had, or otherwise the new one
+abbrev pub IsInserted : OldNames → OldNames → List ℕ → NormalView → Type 0
+IsInserted old new text path = (other : List ℕ) → get_by_text new.by_text other
+    ≡ update bytes_eq (get_by_text old.by_text) text (Some (unwrap_or (get_by_text old.by_text text) path)) other
+
+-- the set has the last name of the text, and those that it had
+abbrev pub HasLast : OldNames → OldNames → List ℕ → Type 0
+HasLast old new text = (n : List ℕ) → (file_name_of text ≡ Some n → contains_text new.last_names n ≡ true)
+    × (contains_text old.last_names n ≡ true → contains_text new.last_names n ≡ true)
+
+-- the last name of a list that leads to a name is that of the name's normal text
+last_name-normal : (steps front : List Step) (n text : List ℕ) → IsNormalTextOf steps text
+    → IsSame (front ++ named n ∷ []) steps → file_name_of text ≡ Some n
+last_name-normal steps front n text normal same =
+    let of : IsNormalTextOf (front ++ named n ∷ []) text =
+    IsNormalTextOf-same (front ++ named n ∷ []) text normal.normal_text (IsSame-trans same normal.same) in
+    let is = last_name-name front n in
+    last_name-IsNormalTextOf of (subst IsSome (sym is) refl) ∙ is
+
+pub Lists-insert : (names : List (List ℕ × List Step)) (path : NormalView) (name : List Step) (old new : OldNames)
+    (text : List ℕ) → IsNormalTextOf name text → IsInserted old new text path → HasLast old new text → Lists names old
+    → Lists (names ++ (view_text path, name) ∷ []) new
+Lists-insert names path name old new text normal inserted has_last lists =
+    record { only = only; each = each; last = last } where
+      more : List (List ℕ × List Step)
+      more = names ++ (view_text path, name) ∷ []
+
+      here : (had : Option NormalView) (p : NormalView) → get_by_text old.by_text text ≡ had → Some (unwrap_or had path) ≡ Some p
+          → (n : List Step) × Contains more (view_text p, n) × IsNormalTextOf n text
+      here None p none is =
+          subst (λ q. (n : List Step) × Contains more (view_text q, n) × IsNormalTextOf n text) (same_Some path p is)
+          (name, Contains-push names (view_text path, name), normal)
+      here (Some q) p had is =
+          let (n, has, of) = lists.only text p (had ∙ is) in
+          (n, Contains-append_left names _ (view_text p, n) has, of)
+
+      only : (other : List ℕ) (p : NormalView) → get_by_text new.by_text other ≡ Some p
+          → (n : List Step) × Contains more (view_text p, n) × IsNormalTextOf n other
+      only other p is = tell (bytes_eq text other) (bytes_eq-Decides text other) (sym (inserted other) ∙ is) where
+        tell : (b : Bool) → ((b ≡ true → text ≡ other) × (text ≡ other → b ≡ true))
+            → cond b (Some (unwrap_or (get_by_text old.by_text text) path)) (get_by_text old.by_text other) ≡ Some p
+            → (n : List Step) × Contains more (view_text p, n) × IsNormalTextOf n other
+        tell true (same, _) is =
+            subst (λ t. (n : List Step) × Contains more (view_text p, n) × IsNormalTextOf n t) (same refl)
+            (here (get_by_text old.by_text text) p refl is)
+        tell false _ is =
+            let (n, has, of) = lists.only other p is in
+            (n, Contains-append_left names _ (view_text p, n) has, of)
+
+      kept : (other : List ℕ) → IsSome (get_by_text old.by_text other) → IsSome (get_by_text new.by_text other)
+      kept other some = rw (inserted other) (tell (bytes_eq text other)) where
+        tell : (b : Bool)
+            → IsSome (cond b (Some (unwrap_or (get_by_text old.by_text text) path)) (get_by_text old.by_text other))
+        tell true = refl
+        tell false = some
+
+      new_one : (other : List ℕ) → other ≡ text → IsSome (get_by_text new.by_text other)
+      new_one other is = rw (inserted other) (tell (bytes_eq text other) (bytes_eq-Decides text other)) where
+        tell : (b : Bool) → ((b ≡ true → text ≡ other) × (text ≡ other → b ≡ true))
+            → IsSome (cond b (Some (unwrap_or (get_by_text old.by_text text) path)) (get_by_text old.by_text other))
+        tell true _ = refl
+        tell false (_, same) = absurd (true≢false (sym (same (sym is))))
+
+      each : (o : List ℕ) (n : List Step) (other : List ℕ) → Contains more (o, n) → IsNormalTextOf n other
+          → IsSome (get_by_text new.by_text other)
+      each o n other has of = elim (Contains-push_cases names (view_text path, name) (o, n) has) [
+        | inl before ↦ kept other (lists.each o n other before of)
+        | inr is ↦
+            let of_name : IsNormalTextOf name other = subst (λ m. IsNormalTextOf m other) (sym (ap (λ pair. pair.1) is)) of in
+            new_one other (normal.only other of_name.normal_text of_name.same)
+      ]
+
+      last : (o : List ℕ) (steps front : List Step) (n : List ℕ) → Contains more (o, steps)
+          → IsSame (front ++ named n ∷ []) steps → contains_text new.last_names n ≡ true
+      last o steps front n has same = elim (Contains-push_cases names (view_text path, name) (o, steps) has) [
+        | inl before ↦ (has_last n).1 (lists.last o steps front n before same)
+        | inr is ↦
+            let of_name : IsSame (front ++ named n ∷ []) name =
+            subst (IsSame (front ++ named n ∷ [])) (sym (ap (λ pair. pair.1) is)) same in
+            (has_last n).0 (last_name-normal name front n text normal of_name)
+      ]
+
+-- ---- each name of each path
+
+-- a path and a name
+abbrev pub PathName : Type 0
+PathName = List ℕ × List Step
+
+-- an element of a list of one
+single : {X : Type 0} (x y : X) → Contains (x ∷ []) y → x ≡ y
+single x y has = elim (Contains-push_cases [] x y has) [
+  | inl (k, within, is) ↦ absurd (omega (arith, within))
+  | inr is ↦ is
+]
+
+-- the first element, or another one
+first_or_rest : {X : Type 0} (x : X) (xs : List X) (y : X) → Contains (x ∷ xs) y → (x ≡ y) ⊎ Contains xs y
+first_or_rest x xs y has = elim (Contains-append_cases (x ∷ []) xs y has) [
+  | inl first ↦ inl (single x y first)
+  | inr rest ↦ inr rest
+]
+
+first : {X : Type 0} (x : X) (xs : List X) → Contains (x ∷ xs) x
+first x xs = Contains-append_left (x ∷ []) xs x (Contains-push [] x)
+
+rest : {X : Type 0} (x : X) (xs : List X) (y : X) → Contains xs y → Contains (x ∷ xs) y
+rest x xs y has = Contains-append_right (x ∷ []) xs y has
+
+Contains-with_names : (old : List ℕ) (names : List (List Step)) (pair : PathName) → Contains (with_names old names) pair
+    → (old ≡ pair.0) × Contains names pair.1
+Contains-with_names old [] pair (k, within, is) = absurd (omega (arith, within))
+Contains-with_names old (name ∷ names) pair has =
+    elim (first_or_rest {X = PathName} (old, name) (with_names old names) pair has) [
+      | inl is ↦ (
+        ap (λ (pair : PathName). pair.0) is,
+        subst (Contains (name ∷ names)) (ap (λ (pair : PathName). pair.1) is) (first name names),
+      )
+      | inr later ↦
+          let (same, has) = Contains-with_names old names pair later in (same, rest name names pair.1 has)
+    ]
+
+with_names-Contains : (old : List ℕ) (names : List (List Step)) (n : List Step) → Contains names n
+    → Contains {X = PathName} (with_names old names) (old, n)
+with_names-Contains old [] n (k, within, is) = absurd (omega (arith, within))
+with_names-Contains old (name ∷ names) n has = elim (first_or_rest name names n has) [
+  | inl is ↦
+      subst (λ m. Contains {X = PathName} (with_names old (name ∷ names)) (old, m)) is
+      (first {X = PathName} (old, name) (with_names old names))
+  | inr later ↦ rest {X = PathName} (old, name) (with_names old names) (old, n) (with_names-Contains old names n later)
+]
+
+-- a name among those of all paths is one of its path
+Contains-all_names : (olds : List (List ℕ)) (pair : PathName) → Contains (all_names olds) pair
+    → Contains olds pair.0 × Contains (names_of pair.0) pair.1
+Contains-all_names [] pair (k, within, is) = absurd (omega (arith, within))
+Contains-all_names (old ∷ olds) pair has =
+    elim (Contains-append_cases (with_names old (names_of old)) (all_names olds) pair has) [
+      | inl here ↦
+          let (same, has) = Contains-with_names old (names_of old) pair here in
+          (subst (Contains (old ∷ olds)) same (first old olds), subst (λ x. Contains (names_of x) pair.1) same has)
+      | inr later ↦
+          let (has, is_name) = Contains-all_names olds pair later in (rest old olds pair.0 has, is_name)
+    ]
+
+all_names-Contains : (olds : List (List ℕ)) (o : List ℕ) (n : List Step) → Contains olds o → Contains (names_of o) n
+    → Contains {X = PathName} (all_names olds) (o, n)
+all_names-Contains [] o n (k, within, is) is_name = absurd (omega (arith, within))
+all_names-Contains (old ∷ olds) o n has is_name = elim (first_or_rest old olds o has) [
+  | inl is ↦
+      Contains-append_left {X = PathName} (with_names old (names_of old)) (all_names olds) (o, n)
+      (subst (λ x. Contains {X = PathName} (with_names x (names_of x)) (o, n)) (sym is)
+      (with_names-Contains o (names_of o) n is_name))
+  | inr later ↦
+      Contains-append_right {X = PathName} (with_names old (names_of old)) (all_names olds) (o, n)
+      (all_names-Contains olds o n later is_name)
+]
+
+-- ---- the names that are inserted together
+
+-- the further names of a page
+pub Lists-page : (names : List PathName) (old : List ℕ) (directory html bare : List Step) (file_name : Option (List ℕ))
+    (set : OldNames) → is_page file_name ≡ true
+    → ((n : List ℕ) → file_name ≡ Some n → html ≡ directory ++ named (stem_of n ++ dot ∷ codes "html") ∷ [])
+    → ((n : List ℕ) → file_name ≡ Some n → bare ≡ directory ++ classed (stem_of n) ∷ [])
+    → Lists ((names ++ (old, html) ∷ []) ++ (old, bare) ∷ []) set
+    → Lists (names ++ with_names old (page_names directory file_name)) set
+Lists-page names old directory html bare None set page is_html is_bare lists = absurd (true≢false (sym page))
+Lists-page names old directory html bare (Some n) set page is_html is_bare lists = of (is_page (Some n)) page where
+  pair : List (List Step)
+  pair = (directory ++ named (stem_of n ++ dot ∷ codes "html") ∷ []) ∷ (directory ++ classed (stem_of n) ∷ []) ∷ []
+
+  both : Lists (names ++ with_names old pair) set
+  both =
+      subst (λ h. Lists (names ++ with_names old (h ∷ (directory ++ classed (stem_of n) ∷ []) ∷ [])) set) (is_html n refl)
+      (subst (λ b. Lists (names ++ with_names old (html ∷ b ∷ [])) set) (is_bare n refl)
+      (subst (λ list. Lists list set) (append_assoc {A = PathName} names ((old, html) ∷ []) ((old, bare) ∷ [])) lists))
+
+  of : (b : Bool) → b ≡ true → Lists (names ++ with_names old (cond b pair [])) set
+  of true is = both
+  of false is = absurd (true≢false (sym is))
+
+-- the names of a path, one after another
+pub Lists-together : (names : List PathName) (old : List ℕ) (one path : List Step) (pages index : List (List Step))
+    (set : OldNames) → one ≡ path
+    → Lists (((names ++ (old, one) ∷ []) ++ with_names old pages) ++ with_names old index) set
+    → Lists (names ++ with_names old (path ∷ pages ++ index)) set
+Lists-together names old one path pages index set is lists =
+    subst (λ c. Lists (names ++ with_names old (c ∷ pages ++ index)) set) is
+    (subst (λ list. Lists list set) whole lists) where
+      with_old : List Step → PathName
+      with_old n = (old, n)
+
+      front : List PathName
+      front = (old, one) ∷ []
+
+      whole : ((names ++ front) ++ with_names old pages) ++ with_names old index ≡ names ++ with_names old (one ∷ pages ++ index)
+      whole =
+          append_assoc (names ++ front) (with_names old pages) (with_names old index)
+          ∙ append_assoc names front (with_names old pages ++ with_names old index)
+          ∙ ap (λ list. names ++ (front ++ list)) (sym (map-append with_old pages index))
+
+-- one more path with all of its names
+pub Lists-path : (olds : List (List ℕ)) (old : List ℕ) (set : OldNames)
+    → Lists (all_names olds ++ with_names old (names_of old)) set → Lists (all_names (olds ++ old ∷ [])) set
+Lists-path olds old set lists =
+    subst (λ list. Lists list set) (flat_map_more (λ o. with_names o (names_of o)) [] olds old) lists
+
+-- the most bytes that aren't path bytes, with one more path
+pub most_others-push : (olds : List (List ℕ)) (old : List ℕ)
+    → most_others (olds ++ old ∷ []) ≡ max (most_others olds) (others_in old)
+most_others-push olds old = fold-append (λ most o. max most (others_in o)) 0 olds (old ∷ [])
+
+-- the paths up to the next one
+next-views : (olds : List NormalView) (i : ℕ) (old : NormalView) → i < length olds → old ≡ get_or olds i old
+    → map view_text (take (i + 1) olds) ≡ map view_text (take i olds) ++ view_text old ∷ []
+next-views olds i old within is =
+    map_more view_text olds i old within ∙ ap (λ o. map view_text (take i olds) ++ view_text o ∷ []) (sym is)
+
+pub Lists-next : (olds : List NormalView) (i : ℕ) (old : NormalView) (set : OldNames) → i < length olds
+    → old ≡ get_or olds i old
+    → Lists (all_names (map view_text (take i olds)) ++ with_names (view_text old) (names_of (view_text old))) set
+    → Lists (all_names (map view_text (take (i + 1) olds))) set
+Lists-next olds i old set within is lists =
+    subst (λ list. Lists (all_names list) set) (sym (next-views olds i old within is))
+    (Lists-path (map view_text (take i olds)) (view_text old) set lists)
+
+pub most_others-next : (olds : List NormalView) (i : ℕ) (old : NormalView) → i < length olds → old ≡ get_or olds i old
+    → most_others (map view_text (take (i + 1) olds))
+    ≡ max (most_others (map view_text (take i olds))) (others_in (view_text old))
+most_others-next olds i old within is =
+    ap most_others (next-views olds i old within is) ∙ most_others-push (map view_text (take i olds)) (view_text old)
+
+-- after the last path
+pub Has-end : (olds : List NormalView) (i : ℕ) (set : OldNames) → length olds ≤ i
+    → Lists (all_names (map view_text (take i olds))) set → set.most_others ≡ most_others (map view_text olds)
+    → Has (map view_text olds) set
+Has-end olds i set end lists most = record {
+  lists = subst (λ list. Lists (all_names (map view_text list)) set) (take_all i olds end) lists;
+  most = most;
+}
+
+-- ---- a search
+
+pub Finds-get : (olds : List (List ℕ)) (set : OldNames) (cs : List Step) (text : List ℕ) (found : Option NormalView)
+    → Has olds set → IsNormalTextOf cs text → found ≡ get_by_text set.by_text text → Finds olds (LeadsToPath cs) found
+Finds-get olds set cs text (Some path) has normal is =
+    let (name, listed, of) = has.lists.only text path (sym is) in
+    let (is_old, is_name) = Contains-all_names olds (view_text path, name) listed in
+    (is_old, record { name = name; is_name = is_name; same = IsSame-trans normal.same (IsSame-sym of.same) })
+Finds-get olds set cs text None has normal is = λ old is_old leads.
+    let of : IsNormalTextOf leads.name text = record {
+      normal_text = normal.normal_text;
+      same = IsSame-trans (IsSame-sym leads.same) normal.same;
+      only = λ other is_normal same. normal.only other is_normal (IsSame-trans leads.same same);
+    } in
+    let listed = all_names-Contains olds old leads.name is_old leads.is_name in
+    absurd (true≢false (sym (subst IsSome (sym is) (has.lists.each old leads.name text listed of))))
+
+-- a text whose last name the set lacks stands for no old path
+pub StandsFor-no_last : (olds : List (List ℕ)) (set : OldNames) (directory : List Step) (text n old : List ℕ) → Has olds set
+    → Contains olds old → file_name_of text ≡ Some n → contains_text set.last_names n ≡ false
+    → StandsFor directory text old → ⊥
+StandsFor-no_last olds set directory text n old has is_old is none stands = elim stands.leads [
+  | inl (below, leads) ↦
+      no leads (directory ++ kept (components text))
+      (IsSame-trans (IsSame-sym (subst (IsSame (directory ++ components text))
+      (sym (append_assoc directory (kept (components text)) (named n ∷ [])))
+      (IsSame-append_left directory ends))) leads.same)
+  | inr (some, leads) ↦ no leads (kept (components text)) (IsSame-trans (IsSame-sym ends) leads.same)
+] where
+  ends : IsSame (components text) (kept (components text) ++ named n ∷ [])
+  ends = IsSame-last_name (components text) n is
+
+  no : {cs : List Step} → (leads : LeadsToPath cs old) → (front : List Step) → IsSame (front ++ named n ∷ []) leads.name → ⊥
+  no leads front same =
+      true≢false
+      (sym (has.lists.last old leads.name front n (all_names-Contains olds old leads.name is_old leads.is_name) same) ∙ none)
+
+-- what is found for a property is found for one that holds of the same paths
+pub Finds-map : (olds : List (List ℕ)) (P Q : List ℕ → Type 0) (found : Option NormalView)
+    → ((old : List ℕ) → Contains olds old → P old → Q old) → ((old : List ℕ) → Q old → P old) → Finds olds P found → Finds olds Q found
+Finds-map olds P Q None to from none = λ old is_old holds. none old is_old (from old holds)
+Finds-map olds P Q (Some path) to from (is_old, holds) = (is_old, to (view_text path) is_old holds)
+
+-- if nothing is found for the first, what is found for the second is found for either
+pub Finds-second : (olds : List (List ℕ)) (P Q : List ℕ → Type 0) (found : Option NormalView) → Finds olds P None
+    → Finds olds Q found → Finds olds (λ old. P old ⊎ Q old) found
+Finds-second olds P Q None first second = λ old is_old holds. elim holds [
+  | inl one ↦ first old is_old one
+  | inr other ↦ second old is_old other
+]
+Finds-second olds P Q (Some path) first (is_old, holds) = (is_old, inr holds)

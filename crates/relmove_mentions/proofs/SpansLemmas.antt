@@ -1,0 +1,144 @@
+-- Spans in order, and the bytes of a span that aren't path bytes.
+use Rattle.std.proofs.Common.{◌≡◌, ℕ, zero, suc, cond, ◌+◌, ◌-◌, ◌<◌, ◌≤◌, Bool, true, false, not, ◌||◌, ◌&&◌, List, [], ◌∷◌, length, take, drop, get_or, refl, sym, ap, ◌∙◌, subst, arith, length-drop, drop-cons}
+use Rattle.std.specs.Prelude.{nat_le}
+use Rattle.std.specs.List.{list_all}
+use Rattle.std.proofs.lemmas.Bool.{le-leb, lt-leb}
+use Rattle.std.proofs.lemmas.List.{get_or-drop, take-take}
+use Rattle.std.proofs.lemmas.List.Sums.{sum_by-take-le, sum_by_more}
+use Rattle.std.proofs.Math.ListN.{drop_of_length-le}
+use Rattle.relmove_mentions.specs.Spans.{ArePassed, FollowFrom, is_apart, is_other_byte, is_path_byte, others_in}
+use Rattle.relmove_mentions.specs.declared.text_span.TextSpan.{TextSpan}
+
+-- ---- spans in order
+
+pub FollowFrom-less : (at less : ℕ) (spans : List TextSpan) → less ≤ at → FollowFrom at spans → FollowFrom less spans
+FollowFrom-less at less [] le follow = tt
+FollowFrom-less at less (span ∷ spans) le (start, order, follow) = (omega (arith, le, start), order, follow)
+
+-- the spans after the first one are in order
+pub FollowFrom-rest : (at : ℕ) (span : TextSpan) (spans : List TextSpan) → FollowFrom at (span ∷ spans) → FollowFrom 0 spans
+FollowFrom-rest at span spans (start, order, follow) = FollowFrom-less span.end 0 spans (omega arith) follow
+
+-- spans that end before each other
+pub is_apart-before : (span other : TextSpan) → span.end ≤ other.start → is_apart span other ≡ true
+is_apart-before span other le = ap (λ b. b || nat_le other.end span.start) (le-leb span.end other.start le)
+
+pub is_apart-after : (span other : TextSpan) → other.end ≤ span.start → is_apart span other ≡ true
+is_apart-after span other le =
+    ap (λ b. nat_le span.end other.start || b) (le-leb other.end span.start le) ∙ or_true (nat_le span.end other.start)
+  where
+    or_true : (b : Bool) → (b || true) ≡ true
+    or_true true = refl
+    or_true false = refl
+
+-- a span that has ended is apart from what begins later
+pub list_all-passed : (span first : TextSpan) (rest : List TextSpan) → first.end ≤ span.start
+    → list_all (is_apart span) (first ∷ rest) ≡ list_all (is_apart span) rest
+list_all-passed span first rest le = ap (λ b. b && list_all (is_apart span) rest) (is_apart-after span first le)
+
+-- a span that ends before all others is apart from them
+pub list_all-before : (span : TextSpan) (at : ℕ) (spans : List TextSpan) → span.end ≤ at → FollowFrom at spans
+    → list_all (is_apart span) spans ≡ true
+list_all-before span at [] le follow = refl
+list_all-before span at (other ∷ spans) le (start, order, follow) =
+    ap (λ b. b && list_all (is_apart span) spans) (is_apart-before span other (omega (arith, le, start)))
+    ∙ list_all-before span other.end spans (omega (arith, le, start, order)) follow
+
+-- a span that isn't apart from the first isn't apart from all
+pub list_all-first : (span first : TextSpan) (rest : List TextSpan) → first.start < span.end → span.start < first.end
+    → list_all (is_apart span) (first ∷ rest) ≡ false
+list_all-first span first rest starts ends =
+    ap (λ b. (b || nat_le first.end span.start) && list_all (is_apart span) rest) (lt-leb span.end first.start starts)
+    ∙ ap (λ b. b && list_all (is_apart span) rest) (lt-leb first.end span.start ends)
+
+-- ---- bytes that aren't path bytes
+
+-- a longer text has no fewer of them
+pub others_in-more : (text : List ℕ) (n m : ℕ) → n ≤ m → others_in (take n text) ≤ others_in (take m text)
+others_in-more text n m le =
+    subst (λ part. others_in part ≤ others_in (take m text)) (take-take n m text le) (sum_by-take-le _ (take m text) n)
+
+-- with one more byte
+others_in-step : (text : List ℕ) (start end : ℕ) → start ≤ end → end < length text
+    → others_in (take (end + 1 - start) (drop start text))
+    ≡ others_in (take (end - start) (drop start text)) + cond (is_other_byte (get_or text end 0)) 1 0
+others_in-step text start end order within =
+    let len : end + 1 - start ≡ end - start + 1 = omega (arith, order) in
+    let at : start + (end - start) ≡ end = omega (arith, order) in
+    let inside : end - start < length (drop start text) = omega (arith, order, within, length-drop start text) in
+    ap (λ n. others_in (take n (drop start text))) len
+    ∙ sum_by_more (λ b. cond (is_other_byte b) 1 0) (drop start text) (end - start) 0 inside
+    ∙ ap (λ b. others_in (take (end - start) (drop start text)) + cond (is_other_byte b) 1 0)
+    (get_or-drop start text (end - start) 0 ∙ ap (λ k. get_or text k 0) at)
+
+-- with one more of them
+pub others_in-next : (text : List ℕ) (start end : ℕ) → start ≤ end → end < length text
+    → is_path_byte (get_or text end 0) ≡ false
+    → others_in (take (end + 1 - start) (drop start text)) ≡ others_in (take (end - start) (drop start text)) + 1
+others_in-next text start end order within other =
+    others_in-step text start end order within
+    ∙ ap (λ b. others_in (take (end - start) (drop start text)) + cond (not b) 1 0) other
+
+-- with one more byte, as many may still come as it leaves
+pub others_in-left : (text : List ℕ) (start end left more most : ℕ) → start ≤ end → end < length text
+    → others_in (take (end - start) (drop start text)) + left ≡ most
+    → cond (is_other_byte (get_or text end 0)) 1 0 + more ≡ left
+    → others_in (take (end + 1 - start) (drop start text)) + more ≡ most
+others_in-left text start end left more most order within count is =
+    omega (arith, others_in-step text start end order within, count, is)
+
+-- no byte is none of them
+pub others_in-none : (text : List ℕ) (start : ℕ) → others_in (take (start - start) (drop start text)) ≡ 0
+others_in-none text start =
+    let none : start - start ≡ 0 = omega arith in ap (λ n. others_in (take n (drop start text))) none
+
+-- ---- the spans after so many
+
+-- they are in order
+pub FollowFrom-drop : (n : ℕ) (spans : List TextSpan) → FollowFrom 0 spans → FollowFrom 0 (drop n spans)
+FollowFrom-drop zero spans follow = follow
+FollowFrom-drop (suc n) [] follow = tt
+FollowFrom-drop (suc n) (span ∷ spans) follow = FollowFrom-drop n spans (FollowFrom-rest 0 span spans follow)
+
+-- the first of them
+drop-next : (spans : List TextSpan) (n : ℕ) (none : TextSpan) → n < length spans
+    → drop n spans ≡ get_or spans n none ∷ drop (n + 1) spans
+drop-next spans n none within =
+    let next : suc n ≡ n + 1 = omega arith in
+    drop-cons spans n none within ∙ ap (λ k. get_or spans n none ∷ drop k spans) next
+
+-- a first one that has ended is passed
+pub list_all-drop_passed : (span none : TextSpan) (spans : List TextSpan) (n : ℕ) → n < length spans
+    → (get_or spans n none).end ≤ span.start
+    → list_all (is_apart span) (drop (n + 1) spans) ≡ list_all (is_apart span) (drop n spans)
+list_all-drop_passed span none spans n within le =
+    sym (ap (list_all (is_apart span)) (drop-next spans n none within)
+    ∙ list_all-passed span (get_or spans n none) (drop (n + 1) spans) le)
+
+pub ArePassed-next : (spans : List TextSpan) (n at : ℕ) (none : TextSpan) → n < length spans
+    → (get_or spans n none).end ≤ at → ArePassed spans n at → ArePassed spans (n + 1) at
+ArePassed-next spans n at none within le passed = λ span later.
+    list_all-drop_passed span none spans n within (omega (arith, le, later)) ∙ passed span later
+
+-- if the span ends before the first of them, it is apart from all of them
+pub list_all-drop_before : (span none : TextSpan) (spans : List TextSpan) (n : ℕ) → n < length spans
+    → span.end ≤ (get_or spans n none).start → FollowFrom 0 spans → list_all (is_apart span) (drop n spans) ≡ true
+list_all-drop_before span none spans n within le follow =
+    let next = drop-next spans n none within in
+    let other = get_or spans n none in
+    let (start, order, later) = subst (FollowFrom 0) next (FollowFrom-drop n spans follow) in
+    ap (list_all (is_apart span)) next
+    ∙ list_all-before span other.start (other ∷ drop (n + 1) spans) le (omega arith, order, later)
+
+-- if it isn't apart from the first of them, it isn't from all
+pub list_all-drop_first : (span none : TextSpan) (spans : List TextSpan) (n : ℕ) → n < length spans
+    → (get_or spans n none).start < span.end → span.start < (get_or spans n none).end
+    → list_all (is_apart span) (drop n spans) ≡ false
+list_all-drop_first span none spans n within starts ends =
+    ap (list_all (is_apart span)) (drop-next spans n none within)
+    ∙ list_all-first span (get_or spans n none) (drop (n + 1) spans) starts ends
+
+-- after all of them none is left
+pub list_all-drop_end : (span : TextSpan) (spans : List TextSpan) (n : ℕ) → length spans ≤ n
+    → list_all (is_apart span) (drop n spans) ≡ true
+list_all-drop_end span spans n le = ap (list_all (is_apart span)) (drop_of_length-le spans le)

@@ -1,0 +1,18 @@
+-- The map's entry for the normal text gets the path if it is vacant, and the set has the last name of the text.
+use Rattle.std.proofs.Common.{string_bytes, ap, arith, sym, ◌∙◌}
+use Rattle.std.proofs.lemmas.Map.Text.{text_keys}
+use Rattle.relative_path.specs.Naming.{file_name_of}
+use Rattle.relative_path.specs.RelativePath.{path_components}
+use Rattle.relmove_mentions.proofs.OldNamesLemmas.{Lists-insert}
+use Rattle.relmove_mentions.proofs.old_names.OldNames.insert.Goals as goal
+
+pub returns-clause-lists : goal.returns-clause-lists
+returns-clause-lists c = λ names lists.
+    Lists-insert names c.args.old (path_components c.args.name) c.args.self.now _ (string_bytes c.into_string-text.result)
+    (rw c.into_string-text.ensures.text c.in_ok-normal.ensures.normal_form) (λ other. grind (arith, text_keys))
+    (λ n. (
+      λ is.
+          c.in_ok-insert_last_name.ensures.has n
+          (ap file_name_of (c.as_relative_path.ensures ∙ sym c.into_string-text.ensures.text) ∙ is),
+      c.in_ok-insert_last_name.ensures.keeps n,
+    )) lists

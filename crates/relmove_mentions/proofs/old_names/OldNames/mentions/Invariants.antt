@@ -1,0 +1,16 @@
+-- The mentions are those that begin before `start`, and so many spans that were read end before it.
+use Rattle.std.proofs.Common.{◌≤◌, ◌-◌, ℕ, List, length}
+use Rattle.relmove_mentions.specs.Mentions.{AreMentionsBefore}
+use Rattle.relmove_mentions.specs.OldNames.{Has}
+use Rattle.relmove_mentions.specs.Spans.{ArePassed}
+use Rattle.relmove_mentions.proofs.old_names.OldNames.mentions.Given as goal
+
+abbrev pub invariant-loop-start : goal.invariant-loop-start
+invariant-loop-start l = record {
+  within : l.start ≤ length l.file.text.now;
+  passed : ArePassed l.file.read.now l.passed l.start;
+  so_far : (olds : List (List ℕ)) → Has olds l.self → AreMentionsBefore olds l.file l.mentions.items l.start 0;
+}
+
+abbrev pub decreases-loop-start : goal.decreases-loop-start
+decreases-loop-start l = length l.file.text.now - l.start

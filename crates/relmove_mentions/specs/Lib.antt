@@ -1,0 +1,5 @@
+pub mod Spans
+pub mod Names
+pub mod Written
+pub mod OldNames
+pub mod Mentions

@@ -1,0 +1,40 @@
+-- The names that an `OldNames` has.
+use Rattle.std.specs.Prelude.{◌≡◌, ℕ, List, map, Option, Some, MatchOption, IsSome, IsTrue, ◌++◌, ◌∷◌, []}
+use Rattle.std.specs.BTreeMap.{get_by_text}
+use Rattle.std.specs.BTreeSet.{contains_text}
+use Rattle.std.specs.List.{Contains, flat_map}
+use Rattle.relative_path.specs.Steps.{Step, name}
+use Rattle.relative_path.specs.Walk.{IsSame}
+use Rattle.relative_path.specs.Normalizing.{IsNormalTextOf}
+use Rattle.relative_path_places.specs.Views.{view_text}
+use Rattle.relative_path_places.specs.declared.normal_view.NormalView.{NormalView}
+use Rattle.relmove_mentions.specs.Names.{names_of, most_others}
+use Rattle.relmove_mentions.specs.declared.old_names.OldNames.{OldNames}
+
+-- a path with each of these names
+abbrev pub with_names : List ℕ → List (List Step) → List (List ℕ × List Step)
+with_names old names = map (λ steps. (old, steps)) names
+
+-- each path with each of its names
+abbrev pub all_names : List (List ℕ) → List (List ℕ × List Step)
+all_names olds = flat_map (λ old. with_names old (names_of old)) olds
+
+-- under the normal text of a name the set has a path with this name, and under no other text a path; it has the
+-- last name of each
+pub record Lists (names : List (List ℕ × List Step)) (set : OldNames) : Type 0 where
+  pub only : (text : List ℕ) (path : NormalView) → get_by_text set.by_text text ≡ Some path
+      → (steps : List Step) × Contains names (view_text path, steps) × IsNormalTextOf steps text
+  pub each : (old : List ℕ) (steps : List Step) (text : List ℕ) → Contains names (old, steps) → IsNormalTextOf steps text
+      → IsSome (get_by_text set.by_text text)
+  pub last : (old : List ℕ) (steps front : List Step) (n : List ℕ) → Contains names (old, steps)
+      → IsSame (front ++ name n ∷ []) steps → IsTrue (contains_text set.last_names n)
+
+-- the set has these old paths
+pub record Has (olds : List (List ℕ)) (set : OldNames) : Type 0 where
+  pub lists : Lists (all_names olds) set
+  pub most : set.most_others ≡ most_others olds
+
+-- one of the old paths for which this holds, or `None` if it holds for none
+abbrev pub Finds : List (List ℕ) → (List ℕ → Type 0) → Option NormalView → Type 0
+Finds olds P found = MatchOption found ((old : List ℕ) → Contains olds old → ¬ P old)
+    (λ path. Contains olds (view_text path) × P (view_text path))

@@ -1,0 +1,21 @@
+//! The places in the text of a file where an old path of a run is written.
+//!
+//! A module uses those of the lines below its own.
+//!
+//! ```text
+//! the mentions in a text        mentions
+//! the old paths, by their names old_names
+//! a file's text                 file_text
+//! spans of a text               text_span
+//! ```
+#![tactic(auto)]
+
+pub use self::file_text::FileText;
+pub use self::mentions::Mention;
+pub use self::old_names::OldNames;
+pub use self::text_span::TextSpan;
+
+mod file_text;
+mod mentions;
+mod old_names;
+mod text_span;

@@ -1,0 +1,352 @@
+//! The mentions of old paths in a text.
+ghost use Rattle.std.specs.Prelude.{◌≡◌, ◌≤◌, ◌<◌, ◌+◌, ◌==◌, ℕ, List, IfNone, IfOk, IfSome, OnOk, drop, false, length, if◌then◌else◌, IsTrue};
+ghost use Rattle.std.specs.List.{All, AllPairs, Contains, list_all, list_any};
+ghost use Rattle.percent_encoding.specs.Percent.{percent_sign};
+ghost use Rattle.relative_path.specs.Unix.{has_root};
+ghost use Rattle.relative_path.specs.RelativePath.{path_components, path_text};
+ghost use Rattle.relative_path_places.specs.Views.{view_text};
+ghost use Rattle.relmove_mentions.specs.Mentions.{AreMentionsBefore, IsMention, spans_of};
+ghost use Rattle.relmove_mentions.specs.OldNames.{Finds, Has};
+ghost use Rattle.relmove_mentions.specs.Spans.{
+  ArePassed,
+  ComesBefore,
+  FollowFrom,
+  is_apart,
+  is_bounded_before,
+  is_other_byte,
+  is_path_byte,
+  others_in,
+  span_bytes,
+};
+ghost use Rattle.relmove_mentions.specs.Written.{
+  IsWritten,
+  LeadsFromDirectory,
+  LeadsFromTop,
+  StandsFor,
+  has_directory,
+};
+ghost use Rattle.relmove_mentions.specs.declared.text_span.TextSpan.{TextSpan};
+
+use crate::file_text::FileText;
+use crate::old_names::OldNames;
+use crate::text_span::{TextSpan, is_bounded_after, is_bounded_before, is_path_byte};
+use percent_encoding::percent_decode;
+use relative_path::RelativePath;
+use relative_path_places::NormalView;
+use std::alloc::{AllocError, Global};
+
+/// A place where an old path is written.
+#[derive(Clone, Copy)]
+pub struct Mention<'p> {
+    /// Where it is written.
+    pub span: TextSpan,
+    /// The old path.
+    pub path: NormalView<'p>,
+}
+
+impl<'p> OldNames<'p> {
+    /// Returns where a file mentions an old path: in the order of the starts, and at one start in the order of the ends.
+    ///
+    /// A mention is a span of the text that is a [name](OldNames::of) of the path, as it is or percent-encoded. The name
+    /// leads from the directory of the file, or from the root. From the root a name without a directory before it
+    /// counts only after a slash, and a path that ends in `.` or `..` is no name.
+    ///
+    /// Right before and after a mention the text ends, or has a byte that isn't an ASCII letter or digit, `%`, `-`,
+    /// `.`, `/`, `_` or above 127. A mention has at most as many such bytes as an old path. What was read has
+    /// no byte of a mention.
+    ///
+    /// Time is linear in the text, and grows with the square of that number. Allocates the list of mentions; for each
+    /// span with a percent sign the decoded bytes; and for each that ends in the last name of a name, once or twice
+    /// what `join_normalized` does. Fails only if an allocation fails.
+    ///
+    /// ```
+    /// let paths = [NormalPath::of(alloc, RelativePath::new("my docs/a.md"))?];
+    /// let names = OldNames::of(alloc, &[paths[0].view()])?;
+    /// let file = FileText { directory: RelativePath::new(""), text: b"my docs/a, my%20docs/a.html", read: &[] };
+    /// let mentions = names.mentions(alloc, file)?;
+    /// assert_eq!(rt; mentions.len(), 2);
+    /// assert_eq!(rt; mentions[1].span, TextSpan { start: 11, end: 27 });
+    /// ```
+    pub fn mentions(
+        &self,
+        alloc: Global,
+        file: FileText<'_>,
+    ) -> Result<Vec<Mention<'p>>, AllocError>
+        // what was read is in order, without overlap
+        requires read_in_order { FollowFrom 0 file.read.now }
+        // each mention is one of its path
+        ensures sound { IfOk result (λ mentions. (olds : List (List ℕ)) → Has olds self.now
+            → All (λ mention. IsMention olds file.entry mention.span (view_text mention.path)) mentions.items) }
+        // each span at which a path is mentioned is that of a mention
+        ensures complete { IfOk result (λ mentions. (olds : List (List ℕ)) → Has olds self.now
+            → (span : TextSpan) (old : List ℕ) → IsMention olds file.entry span old
+            → Contains (spans_of mentions.items) span) }
+        // no span comes twice, and they are in order
+        ensures in_order { IfOk result (λ mentions. (olds : List (List ℕ)) → Has olds self.now
+            → AllPairs ComesBefore (spans_of mentions.items)) }
+    {
+        let mut mentions = Vec::new(alloc);
+        let mut passed = 0;
+        let mut start = 0;
+        while start < file.text.len() {
+            passed = count_passed(file.read, passed, start);
+            self.push_from(alloc, file, passed, start, &mut mentions)?;
+            start += 1;
+        }
+        Ok(mentions)
+    }
+
+    // Appends the mentions that begin at an offset. So many of the spans that were read end before it.
+    fn push_from(
+        &self,
+        alloc: Global,
+        file: FileText<'_>,
+        passed: usize,
+        start: usize,
+        mentions: &mut Vec<Mention<'p>>,
+    ) -> Result<(), AllocError>
+        requires within { start ≤ length file.text.now }
+        requires in_order { FollowFrom 0 file.read.now }
+        requires passed { ArePassed file.read.now passed start }
+        ensures { OnOk result ((olds : List (List ℕ)) → Has olds self.now
+            → AreMentionsBefore olds file.entry mentions.old.items start 0
+            → AreMentionsBefore olds file.entry mentions.new.items (start + 1) 0) }
+    {
+        if !is_bounded_before(file.text, start) {
+            return Ok(());
+        }
+        self.push_bounded(alloc, file, passed, start, mentions)
+    }
+
+    // The same, for an offset at which a mention can begin.
+    fn push_bounded(
+        &self,
+        alloc: Global,
+        file: FileText<'_>,
+        passed: usize,
+        start: usize,
+        mentions: &mut Vec<Mention<'p>>,
+    ) -> Result<(), AllocError>
+        requires within { start ≤ length file.text.now }
+        requires before { IsTrue (is_bounded_before file.text.now start) }
+        requires in_order { FollowFrom 0 file.read.now }
+        requires passed { ArePassed file.read.now passed start }
+        ensures { OnOk result ((olds : List (List ℕ)) → Has olds self.now
+            → AreMentionsBefore olds file.entry mentions.old.items start 0
+            → AreMentionsBefore olds file.entry mentions.new.items (start + 1) 0) }
+    {
+        let mut left = self.most_others();
+        let mut end = start;
+        while end < file.text.len() {
+            let Some(more) = others_left(file.text[end], left) else {
+                return Ok(());
+            };
+            left = more;
+            end += 1;
+            self.push_at(alloc, file, passed, TextSpan { start, end }, mentions)?;
+        }
+        Ok(())
+    }
+
+    // Appends the mention at a span, if there is one.
+    fn push_at(
+        &self,
+        alloc: Global,
+        file: FileText<'_>,
+        passed: usize,
+        span: TextSpan,
+        mentions: &mut Vec<Mention<'p>>,
+    ) -> Result<(), AllocError>
+        requires order { span.start < span.end }
+        requires within { span.end ≤ length file.text.now }
+        requires before { IsTrue (is_bounded_before file.text.now span.start) }
+        requires few { others_in (span_bytes file.text.now span) ≤ self.now.most_others }
+        requires in_order { FollowFrom 0 file.read.now }
+        requires passed { ArePassed file.read.now passed span.start }
+        ensures { OnOk result ((olds : List (List ℕ)) → Has olds self.now
+            → AreMentionsBefore olds file.entry mentions.old.items span.start span.end
+            → AreMentionsBefore olds file.entry mentions.new.items span.start (span.end + 1)) }
+    {
+        let found = self.find_at(alloc, file, passed, span)?;
+        match found {
+            Some(path) => {
+                mentions.push(Mention { span, path })?;
+                Ok(())
+            }
+            None => Ok(()),
+        }
+    }
+
+    // Returns an old path that is mentioned at a span.
+    fn find_at(
+        &self,
+        alloc: Global,
+        file: FileText<'_>,
+        passed: usize,
+        span: TextSpan,
+    ) -> Result<Option<NormalView<'p>>, AllocError>
+        requires order { span.start < span.end }
+        requires within { span.end ≤ length file.text.now }
+        requires before { IsTrue (is_bounded_before file.text.now span.start) }
+        requires few { others_in (span_bytes file.text.now span) ≤ self.now.most_others }
+        requires in_order { FollowFrom 0 file.read.now }
+        requires passed { ArePassed file.read.now passed span.start }
+        ensures { IfOk result (λ found. (olds : List (List ℕ)) → Has olds self.now
+            → Finds olds (IsMention olds file.entry span) found) }
+    {
+        if !is_bounded_after(file.text, span.end) {
+            return Ok(None);
+        }
+        if !is_unread(file.read, passed, span) {
+            return Ok(None);
+        }
+        self.find(alloc, file.directory, &file.text[span.start..span.end])
+    }
+
+    // Returns an old path that bytes write.
+    fn find(
+        &self,
+        alloc: Global,
+        directory: RelativePath<'_>,
+        bytes: &[u8],
+    ) -> Result<Option<NormalView<'p>>, AllocError>
+        ensures { IfOk result (λ found. (olds : List (List ℕ)) → Has olds self.now
+            → Finds olds (IsWritten (path_components directory.entry) bytes.now) found) }
+    {
+        if let Some(old) = self.find_text(alloc, directory, bytes)? {
+            return Ok(Some(old));
+        }
+        if !has_percent(bytes) {
+            return Ok(None);
+        }
+        let mut text = Vec::new(alloc);
+        percent_decode(bytes).append_to(&mut text)?;
+        self.find_text(alloc, directory, text.as_slice())
+    }
+
+    // Returns an old path for which a text stands.
+    fn find_text(
+        &self,
+        alloc: Global,
+        directory: RelativePath<'_>,
+        text: &[u8],
+    ) -> Result<Option<NormalView<'p>>, AllocError>
+        ensures { IfOk result (λ found. (olds : List (List ℕ)) → Has olds self.now
+            → Finds olds (StandsFor (path_components directory.entry) text.now) found) }
+    {
+        let Ok(text) = str::from_utf8(text) else {
+            return Ok(None);
+        };
+        let path = RelativePath::new(text);
+        let Some(last) = path.file_name() else {
+            return Ok(None);
+        };
+        if !self.has_last_name(last) {
+            return Ok(None);
+        }
+        if let Some(old) = self.find_from_directory(alloc, directory, path)? {
+            return Ok(Some(old));
+        }
+        self.find_from_top(alloc, path)
+    }
+
+    // Returns an old path to which a path leads from a directory.
+    fn find_from_directory(
+        &self,
+        alloc: Global,
+        directory: RelativePath<'_>,
+        path: RelativePath<'_>,
+    ) -> Result<Option<NormalView<'p>>, AllocError>
+        ensures { IfOk result (λ found. (olds : List (List ℕ)) → Has olds self.now
+            → Finds olds (LeadsFromDirectory (path_components directory.entry) (path_text path.entry)) found) }
+    {
+        if has_root(path) {
+            return Ok(None);
+        }
+        let place = directory.join_normalized(alloc, path)?;
+        Ok(self.get(place.as_relative_path().as_str()))
+    }
+
+    // Returns an old path to which a path leads from the top.
+    fn find_from_top(
+        &self,
+        alloc: Global,
+        path: RelativePath<'_>,
+    ) -> Result<Option<NormalView<'p>>, AllocError>
+        ensures { IfOk result (λ found. (olds : List (List ℕ)) → Has olds self.now
+            → Finds olds (LeadsFromTop (path_text path.entry)) found) }
+    {
+        if !has_directory(path) {
+            return Ok(None);
+        }
+        let place = path.normalize(alloc)?;
+        Ok(self.get(place.as_relative_path().as_str()))
+    }
+}
+
+// Returns whether bytes have a percent sign.
+fn has_percent(bytes: &[u8]) -> bool
+    ensures { result ≡ list_any (λ b. b == percent_sign) bytes.now }
+{
+    bytes.iter().any(|byte| *byte == b'%')
+}
+
+// Returns whether a path begins with a slash.
+fn has_root(path: RelativePath<'_>) -> bool
+    ensures { result ≡ has_root (path_text path.entry) }
+{
+    match path.as_str().as_bytes() {
+        [] => false,
+        [first, ..] => *first == b'/',
+    }
+}
+
+// Returns whether a path begins with a slash, or has a directory before its name.
+fn has_directory(path: RelativePath<'_>) -> bool
+    ensures { result ≡ has_directory (path_text path.entry) }
+{
+    has_root(path) || path.components().count() > 1
+}
+
+// Returns how many bytes that aren't path bytes may still come after this byte. `None` if this is one too many.
+fn others_left(byte: u8, left: usize) -> Option<usize>
+    ensures none { IfNone result ((left ≡ 0) × (is_path_byte byte ≡ false)) }
+    ensures some { IfSome result (λ more. (if is_other_byte byte then 1 else 0) + more ≡ left) }
+{
+    if is_path_byte(byte) {
+        Some(left)
+    } else {
+        left.checked_sub(1)
+    }
+}
+
+// Returns how many spans at the start end at or before an offset, if so many do.
+fn count_passed(spans: &[TextSpan], passed: usize, at: usize) -> usize
+    requires { ArePassed spans.now passed at }
+    ensures { ArePassed spans.now result at }
+{
+    let mut count = passed;
+    while count < spans.len() && spans[count].end <= at {
+        count += 1;
+    }
+    count
+}
+
+// Returns whether a span is apart from the spans after so many, which are in order.
+fn is_unread(spans: &[TextSpan], passed: usize, span: TextSpan) -> bool
+    requires in_order { FollowFrom 0 spans.now }
+    ensures { result ≡ list_all (is_apart span) (drop passed spans.now) }
+{
+    let mut count = passed;
+    while count < spans.len() {
+        let other = spans[count];
+        if span.end <= other.start {
+            return true;
+        }
+        if span.start < other.end {
+            return false;
+        }
+        count += 1;
+    }
+    true
+}

@@ -1,0 +1,236 @@
+//! The old paths of a run, by their names.
+ghost use Rattle.std.specs.Prelude.{◌≡◌, ◌++◌, ◌∷◌, [], ℕ, List, map, max, true, if◌then◌else◌, IfOk, OnOk, Some};
+ghost use Rattle.std.specs.BTreeMap.{get_by_text};
+ghost use Rattle.std.specs.BTreeSet.{contains_text};
+ghost use Rattle.std.specs.Str.{bytes_eq};
+ghost use Rattle.relative_path.specs.Editing.{kept};
+ghost use Rattle.relative_path.specs.Naming.{file_name_of};
+ghost use Rattle.relative_path.specs.RelativePath.{path_components, path_text};
+ghost use Rattle.relative_path.specs.Steps.{Step, components};
+ghost use Rattle.relative_path_places.specs.Views.{view_text};
+ghost use Rattle.relmove_mentions.specs.Names.{
+  index_names,
+  is_index_page,
+  is_page,
+  most_others,
+  names_of,
+  page_names,
+};
+ghost use Rattle.relmove_mentions.specs.OldNames.{Has, Lists, with_names};
+ghost use Rattle.relmove_mentions.specs.Spans.{others_in};
+
+use crate::text_span::others_in;
+use relative_path::RelativePath;
+use relative_path_places::{NormalView, directory};
+use std::alloc::{AllocError, Global};
+use std::collections::{BTreeMap, BTreeSet};
+
+/// The old paths of a run, by the names under which a file may mention them.
+///
+/// ```
+/// let page = NormalPath::of(alloc, RelativePath::new("docs/setup.md"))?;
+/// let names = OldNames::of(alloc, &[page.view()])?;
+/// let file = FileText { directory: RelativePath::new(""), text: b"see docs/setup.html", read: &[] };
+/// let mentions = names.mentions(alloc, file)?;
+/// assert_eq!(rt; mentions[0].span, TextSpan { start: 4, end: 19 });
+/// assert_eq!(rt; mentions[0].path.as_relative_path().as_str(), "docs/setup.md");
+/// ```
+#[derive(Drop)]
+pub struct OldNames<'p> {
+    by_text: BTreeMap<String, NormalView<'p>>,
+    last_names: BTreeSet<String>,
+    most_others: usize,
+}
+
+impl<'p> OldNames<'p> {
+    /// Returns the names of old paths. If several paths have one name, the name stands for the first of them.
+    ///
+    /// A path has these names: itself; as a page, which has the extension `md` or `markdown` in any case, the path with
+    /// the extension `html`, and without an extension; and as `README.md`, `index.md` or `_index.md` its directory,
+    /// unless that is the root.
+    ///
+    /// Allocates a copy of each name and of its last name, and entries for those that are new. Fails only if an
+    /// allocation fails.
+    ///
+    /// ```
+    /// let pages = [NormalPath::of(alloc, RelativePath::new("docs/README.md"))?];
+    /// let names = OldNames::of(alloc, &[pages[0].view()])?;
+    /// let file = FileText { directory: RelativePath::new("a"), text: b"/docs/", read: &[] };
+    /// assert_eq!(rt; names.mentions(alloc, file)?.len(), 1);
+    /// ```
+    pub fn of(alloc: Global, olds: &[NormalView<'p>]) -> Result<OldNames<'p>, AllocError>
+        ensures { IfOk result (Has (map view_text olds.now)) }
+    {
+        let mut names = OldNames::new(alloc, most_others_of(olds));
+        for old in olds {
+            names.insert_names(alloc, *old)?;
+        }
+        Ok(names)
+    }
+
+    // Returns the names of no path.
+    fn new(alloc: Global, most_others: usize) -> OldNames<'p>
+        ensures lists { Lists [] result }
+        ensures most { result.most_others ≡ most_others }
+    {
+        OldNames {
+            by_text: BTreeMap::new(alloc),
+            last_names: BTreeSet::new(alloc),
+            most_others,
+        }
+    }
+
+    // Inserts the names of an old path.
+    fn insert_names(&mut self, alloc: Global, old: NormalView<'p>) -> Result<(), AllocError>
+        ensures lists { OnOk result ((names : List (List ℕ × List Step)) → Lists names self.old
+            → Lists (names ++ with_names (view_text old.entry) (names_of (view_text old.entry))) self.new) }
+        ensures most { self.new.most_others ≡ self.old.most_others }
+    {
+        self.insert(alloc, old.as_relative_path(), old)?;
+        self.insert_page_names(alloc, old)?;
+        self.insert_index_names(alloc, old)?;
+        Ok(())
+    }
+
+    // Inserts the further names of a page.
+    fn insert_page_names(&mut self, alloc: Global, old: NormalView<'p>) -> Result<(), AllocError>
+        ensures lists { OnOk result ((names : List (List ℕ × List Step)) → Lists names self.old
+            → Lists (names ++ with_names (view_text old.entry) (page_names (kept (components (view_text old.entry)))
+            (file_name_of (view_text old.entry)))) self.new) }
+        ensures most { self.new.most_others ≡ self.old.most_others }
+    {
+        let path = old.as_relative_path();
+        if !is_page(path) {
+            return Ok(());
+        }
+        let html = path.with_extension(alloc, "html")?;
+        self.insert(alloc, html.as_relative_path(), old)?;
+        let bare = path.with_extension(alloc, "")?;
+        self.insert(alloc, bare.as_relative_path(), old)?;
+        Ok(())
+    }
+
+    // Inserts the directory of a page for which its directory can stand.
+    fn insert_index_names(&mut self, alloc: Global, old: NormalView<'p>) -> Result<(), AllocError>
+        ensures lists { OnOk result ((names : List (List ℕ × List Step)) → Lists names self.old
+            → Lists (names ++ with_names (view_text old.entry) (index_names (kept (components (view_text old.entry)))
+            (file_name_of (view_text old.entry)))) self.new) }
+        ensures most { self.new.most_others ≡ self.old.most_others }
+    {
+        let path = old.as_relative_path();
+        if !is_index_page(path) {
+            return Ok(());
+        }
+        let directory = directory(path);
+        if directory.components().next().is_none() {
+            return Ok(());
+        }
+        self.insert(alloc, directory, old)
+    }
+
+    // Inserts a name of an old path, unless an earlier path has it.
+    fn insert(
+        &mut self,
+        alloc: Global,
+        name: RelativePath<'_>,
+        old: NormalView<'p>,
+    ) -> Result<(), AllocError>
+        ensures lists { OnOk result ((names : List (List ℕ × List Step)) → Lists names self.old
+            → Lists (names ++ (view_text old.entry, path_components name.entry) ∷ []) self.new) }
+        ensures most { self.new.most_others ≡ self.old.most_others }
+    {
+        let normal = name.normalize(alloc)?;
+        insert_last_name(alloc, &mut self.last_names, normal.as_relative_path())?;
+        let text = normal.into_string();
+        self.by_text.entry(text)?.or_insert(old);
+        Ok(())
+    }
+
+    // Returns how many bytes of an old path aren't path bytes, at most.
+    pub(crate) fn most_others(&self) -> usize
+        ensures { result ≡ self.now.most_others }
+    {
+        self.most_others
+    }
+
+    // Returns whether a name of an old path ends in this name.
+    pub(crate) fn has_last_name(&self, name: &str) -> bool
+        ensures { result ≡ contains_text self.now.last_names name.now }
+    {
+        self.last_names.contains(name)
+    }
+
+    // Returns the first old path with a name, by the name's normal text.
+    pub(crate) fn get(&self, name: &str) -> Option<NormalView<'p>>
+        ensures { result ≡ get_by_text self.now.by_text name.now }
+    {
+        self.by_text.get(name).copied()
+    }
+}
+
+// Inserts the last name of a path.
+fn insert_last_name(
+    alloc: Global,
+    last_names: &mut BTreeSet<String>,
+    path: RelativePath<'_>,
+) -> Result<(), AllocError>
+    ensures has { OnOk result ((n : List ℕ) → file_name_of (path_text path.entry) ≡ Some n
+        → contains_text last_names.new n ≡ true) }
+    ensures keeps { OnOk result ((n : List ℕ) → contains_text last_names.old n ≡ true
+        → contains_text last_names.new n ≡ true) }
+{
+    match path.file_name() {
+        Some(name) => insert_text(alloc, last_names, name),
+        None => Ok(()),
+    }
+}
+
+// Inserts a text.
+fn insert_text(alloc: Global, texts: &mut BTreeSet<String>, text: &str) -> Result<(), AllocError>
+    ensures { OnOk result ((other : List ℕ) → contains_text texts.new other
+        ≡ (if bytes_eq text.now other then true else contains_text texts.old other)) }
+{
+    let owned = String::from_str(alloc, text)?;
+    texts.insert(owned)?;
+    Ok(())
+}
+
+// Returns the most bytes in a path of these that aren't path bytes.
+fn most_others_of(olds: &[NormalView<'_>]) -> usize
+    ensures { result ≡ most_others (map view_text olds.now) }
+{
+    let mut most = 0;
+    for old in olds {
+        most = larger(most, others_in(old.as_relative_path().as_str().as_bytes()));
+    }
+    most
+}
+
+// Returns the larger of two numbers.
+fn larger(one: usize, other: usize) -> usize
+    ensures { result ≡ max one other }
+{
+    if one < other { other } else { one }
+}
+
+// Returns whether a path is that of a page.
+fn is_page(path: RelativePath<'_>) -> bool
+    ensures { result ≡ is_page (file_name_of (path_text path.entry)) }
+{
+    match path.extension() {
+        Some(extension) => {
+            extension.eq_ignore_ascii_case("md") || extension.eq_ignore_ascii_case("markdown")
+        }
+        None => false,
+    }
+}
+
+// Returns whether the directory of a file can stand for it.
+fn is_index_page(path: RelativePath<'_>) -> bool
+    ensures { result ≡ is_index_page (file_name_of (path_text path.entry)) }
+{
+    match path.file_name() {
+        Some(name) => name == "README.md" || name == "index.md" || name == "_index.md",
+        None => false,
+    }
+}

@@ -1,0 +1,60 @@
+//! Spans of a text, and where one can begin and end.
+ghost use Rattle.std.specs.Prelude.{◌≡◌, ◌≤◌, length};
+ghost use Rattle.relmove_mentions.specs.Spans.{
+  is_bounded_after,
+  is_bounded_before,
+  is_path_byte,
+  others_in,
+};
+
+/// A span of a text: its bytes from the offset `start` up to the offset `end`.
+///
+/// ```
+/// let span = TextSpan { start: 4, end: 8 };
+/// assert_eq!(rt; &"see a.md"[span.start..span.end], "a.md");
+/// ```
+#[derive(Clone, Copy, Debug, PartialEq, Eq)]
+pub struct TextSpan {
+    /// The offset of the first byte.
+    pub start: usize,
+    /// The offset after the last byte.
+    pub end: usize,
+}
+
+// Returns whether a path goes on with a byte.
+#[inline]
+pub(crate) fn is_path_byte(byte: u8) -> bool
+    ensures { result ≡ is_path_byte byte }
+{
+    byte.is_ascii_alphanumeric()
+        || byte == b'%'
+        || byte == b'-'
+        || byte == b'.'
+        || byte == b'/'
+        || byte == b'_'
+        || byte > 127
+}
+
+// Returns how many bytes of a text aren't path bytes.
+pub(crate) fn others_in(text: &[u8]) -> usize
+    ensures { result ≡ others_in text.now }
+{
+    text.iter().filter(|byte| !is_path_byte(**byte)).count()
+}
+
+// Returns whether the byte before an offset, if there is one, isn't a path byte.
+#[inline]
+pub(crate) fn is_bounded_before(text: &[u8], start: usize) -> bool
+    requires { start ≤ length text.now }
+    ensures { result ≡ is_bounded_before text.now start }
+{
+    start == 0 || !is_path_byte(text[start - 1])
+}
+
+// Returns whether the byte at an offset, if there is one, isn't a path byte.
+#[inline]
+pub(crate) fn is_bounded_after(text: &[u8], end: usize) -> bool
+    ensures { result ≡ is_bounded_after text.now end }
+{
+    text.len() <= end || !is_path_byte(text[end])
+}

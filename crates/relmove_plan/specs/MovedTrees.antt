@@ -1,0 +1,53 @@
+-- The tree after the moves.
+use Rattle.std.specs.Prelude.{◌≡◌, ◌≢◌, ◌⊎◌, ◌<◌, ℕ, List, [], ◌∷◌, ◌++◌, map, length, Some, None, IsSome}
+use Rattle.std.specs.List.{Any}
+use Rattle.relative_path.specs.Steps.{components, name}
+use Rattle.relative_path.specs.Walk.{place_of}
+use Rattle.relative_path_links.specs.declared.site.MovedSitePage.{MovedSitePage}
+use Rattle.relative_path_moves.specs.Moves.{Move, move_at}
+use Rattle.relative_path_moves.specs.TreeMoves.{AtTreePath}
+use Rattle.relmove_plan.specs.FileTrees.{Directory, Place, Tree}
+
+-- the nearest move takes what is at the one place to the other; what no move takes stays
+abbrev pub AreTakenTo : List Move → Place → Place → Type 0
+AreTakenTo moves from to = AtTreePath moves (map name from) (λ target. place_of target ≡ Some to)
+
+-- the place is above the new path of a move
+abbrev pub IsAboveNew : List Move → Place → Type 0
+IsAboveNew moves place = (k : ℕ) × (k < length moves) × (n : List ℕ) × (rest : Place)
+    × (place_of (move_at moves k).new ≡ Some (place ++ n ∷ rest))
+
+-- the place is above the old path of a move
+abbrev pub IsAboveOld : List Move → Place → Type 0
+IsAboveOld moves place = (k : ℕ) × (k < length moves) × (n : List ℕ) × (rest : Place)
+    × (place_of (move_at moves k).old ≡ Some (place ++ n ∷ rest))
+
+-- each thing of the tree `now` is where the moves take it, directories are above the new paths, and nothing else is there
+pub record IsMoved (moves : List Move) (now end : Tree) : Type 0 where
+  pub arrives : (from to : Place) → IsSome (now from) → AreTakenTo moves from to → end to ≡ now from
+  pub made : (place : Place) → IsAboveNew moves place → end place ≡ Some Directory
+  pub only : (to : Place) → IsSome (end to)
+      → ((from : Place) × IsSome (now from) × AreTakenTo moves from to) ⊎ IsAboveNew moves to
+
+-- a link of a page leads to what is at the place after the moves
+abbrev pub IsLinkedAt : List Move → List MovedSitePage → Place → Type 0
+IsLinkedAt moves news place = Any (λ new. Any (λ edit. (file : List ℕ) × (edit.file ≡ Some file)
+    × AtTreePath moves (components file) (λ target. place_of target ≡ Some place)) new.edits.items) news
+
+-- the moves take a directory above an old path, which isn't the root, to the place, and no link leads there
+pub record IsLeft (moves : List Move) (news : List MovedSitePage) (place : Place) : Type 0 where
+  pub from : Place
+  pub some : from ≢ []
+  pub above : IsAboveOld moves from
+  pub taken : AreTakenTo moves from place
+  pub unlinked : ¬ IsLinkedAt moves news place
+
+-- the place is left, and so is each place below it at which something is
+pub record IsEmptied (left : Place → Type 0) (tree : Tree) (place : Place) : Type 0 where
+  pub itself : left place
+  pub below : (n : List ℕ) (rest : Place) → IsSome (tree (place ++ n ∷ rest)) → left (place ++ n ∷ rest)
+
+-- nothing is where a place is emptied, and all else is as it was
+pub record IsCleared (left : Place → Type 0) (tree end : Tree) : Type 0 where
+  pub gone : (place : Place) → IsEmptied left tree place → end place ≡ None
+  pub stays : (place : Place) → ¬ IsEmptied left tree place → end place ≡ tree place

@@ -1,0 +1,71 @@
+-- The staging names, to which things are renamed before they come to their new paths, and the names of new files.
+use Rattle.std.specs.Prelude.{◌≡◌, ◌≢◌, ◌<◌, ◌≤◌, ℕ, ◌+◌, ◌^◌, List, ◌++◌, All, AllPairs, codes, decimal, ⊤}
+use Rattle.relative_path.specs.Steps.{Step, components}
+use Rattle.relative_path.specs.Normalizing.{IsNormalTextOf}
+use Rattle.relative_path_places.specs.PlaceIndex.{Indexes, IsNoneAt}
+use Rattle.relative_path_places.specs.declared.place_index.PlaceIndex.{PlaceIndex}
+use Rattle.relmove_checks.specs.declared.refusal.Refusal.{Refusal}
+use Rattle.relmove_checks.specs.declared.refusal.Refusal.TheVariants.{NoFileName, LeavesRoot, IntoItself, NotPlain, ReservedName, SameOld, NotThere, ForeignName, SameNew, Taken, Collision, BelowFile, BelowUnread, NoFreeName, OutOfMemory}
+use Rattle.relmove_steps.specs.declared.staging.FreeNames.{FreeNames}
+
+-- the name with this number
+abbrev pub numbered_name : ℕ → List ℕ
+numbered_name n = codes ".relmove-" ++ decimal n
+
+-- the name has a number below this one
+pub record IsNumbered (next : ℕ) (name : List ℕ) : Type 0 where
+  pub number : ℕ
+  pub below : number < next
+  pub fits : number < 2 ^ 64
+  pub name_is : name ≡ numbered_name number
+
+-- the names have numbers, no two of them are equal, and none of the paths leads to where one of them leads
+pub record AreFreeNames (paths : List (List Step)) (names : List (List ℕ)) : Type 0 where
+  pub numbered : All (λ name. (n : ℕ) × (n < 2 ^ 64) × (name ≡ numbered_name n)) names
+  pub different : AllPairs (λ one other. one ≢ other) names
+  pub unused : All (λ name. IsNoneAt paths (components name)) names
+
+-- the names were drawn from these free names, which are over this index; so they are free
+pub record AreDrawn (index : PlaceIndex) (free : FreeNames) (names : List (List ℕ)) : Type 0 where
+  pub entries : free.entries.now ≡ index
+  pub numbered : All (IsNumbered free.next) names
+  pub fresh : (paths : List (List Step)) → Indexes paths index → AreFreeNames paths names
+
+-- this name was drawn from the free names before, and no entry has it; these are the free names after
+pub record IsDrawn (before after : FreeNames) (name : List ℕ) : Type 0 where
+  pub number : ℕ
+  pub fits : number < 2 ^ 64
+  pub late : before.next ≤ number
+  pub entries : after.entries ≡ before.entries
+  pub next : after.next ≡ number + 1
+  pub name_is : name ≡ numbered_name number
+  pub unused : (paths : List (List Step)) → Indexes paths before.entries.now → IsNoneAt paths (components name)
+
+-- the file's name was drawn from the free names before, the file is in the directory to which the components lead, and no
+-- entry is at it; these are the free names after
+pub record IsDrawnIn (cs : List Step) (before after : FreeNames) (file : List ℕ) : Type 0 where
+  pub number : ℕ
+  pub fits : number < 2 ^ 64
+  pub late : before.next ≤ number
+  pub entries : after.entries ≡ before.entries
+  pub next : after.next ≡ number + 1
+  pub file_of : IsNormalTextOf (cs ++ components (numbered_name number)) file
+  pub unused : (paths : List (List Step)) → Indexes paths before.entries.now → IsNoneAt paths (components file)
+
+-- no name is free, or an allocation failed
+abbrev pub IsActionsRefusal : Refusal → Type 0
+IsActionsRefusal (NoFileName j) = ⊥
+IsActionsRefusal (LeavesRoot j) = ⊥
+IsActionsRefusal (IntoItself j) = ⊥
+IsActionsRefusal (NotPlain j) = ⊥
+IsActionsRefusal (ReservedName j) = ⊥
+IsActionsRefusal (SameOld i j) = ⊥
+IsActionsRefusal (NotThere j) = ⊥
+IsActionsRefusal (ForeignName j) = ⊥
+IsActionsRefusal (SameNew i j) = ⊥
+IsActionsRefusal (Taken j) = ⊥
+IsActionsRefusal (Collision d e) = ⊥
+IsActionsRefusal (BelowFile j) = ⊥
+IsActionsRefusal (BelowUnread j) = ⊥
+IsActionsRefusal NoFreeName = ⊤
+IsActionsRefusal OutOfMemory = ⊤
