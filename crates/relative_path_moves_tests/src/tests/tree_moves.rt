@@ -151,7 +151,7 @@ const OF_A_PAGE: [Link; 11] = [
     ("docs/a.md", ".", "as it is"),
     ("docs/./a.md", "../docs2/x", "../../docs2/x"),
     ("docs", "docs/a.md", "guide/a.md"),
-    ("docs/a.md/..", "a.md", "guide/a.md/a.md"),
+    ("docs", "a.md", "../a.md"),
 ];
 
 #[test]
