@@ -5,7 +5,7 @@ use crate::dead_links::leads_somewhere;
 use crate::moving::WhyRefused;
 use crate::tree::{EntryKind, Page, Tree, is_at_or_below, normal_text};
 use relative_path::RelativePath;
-use relative_path_links::{Change, Edit, MovedSitePage, SitePage};
+use relative_path_links::{Change, Edit, MovedSitePage, SitePage, are_in_order, edited};
 use relative_path_moves::{MoveTableError, TreeMoves};
 use relative_path_places::{NormalPath, PlaceIndex};
 use relmove_actions::Actions;
@@ -339,28 +339,20 @@ fn led_to_nothing<S: Store>(store: &mut S, edit: &Edit) -> Result<bool, AllocErr
     }
 }
 
-// A page with the new targets among its edits, or `None` if there are none.
+// A page with the new targets among its edits, or `None` if there are none. The edits are in order in the page, since a plan
+// made them.
 fn text_with(alloc: Global, page: &str, edits: &[Edit]) -> Result<Option<String>, AllocError> {
     if !edits.iter().any(|edit| edit.is_new()) {
         return Ok(None);
     }
-    let mut text = String::with_capacity(alloc, page.len())?;
-    let mut at = 0usize;
-    for edit in edits {
-        if let Change::New(new) = &edit.change {
-            let Some(before) = page.get(at..edit.target.start) else {
-                return Ok(None);
-            };
-            text.push_str(before)?;
-            text.push_str(new.as_str())?;
-            at = edit.target.end;
-        }
-    }
-    let Some(rest) = page.get(at..) else {
+    let targets = edits
+        .iter()
+        .map(|edit| edit.target)
+        .collect::<Vec<_>>(alloc)?;
+    if !are_in_order(page, &targets) {
         return Ok(None);
-    };
-    text.push_str(rest)?;
-    Ok(Some(text))
+    }
+    Ok(Some(edited(alloc, page, edits)?))
 }
 
 /// The files of a store, by their paths before moves that were made. It answers questions, and changes nothing.

@@ -394,7 +394,7 @@ fn move_and_write<'m, R: Machine, O: Write, E: Write>(
         carry_out(locked, actions, &texts, &directories)
     };
     let done = (counts, status);
-    Ok(print_run(alloc, root, ended, done, options, out, errors))
+    Ok(print_run(alloc, root, &ended, done, options, out, errors))
 }
 
 // The pages after moves, and the actions of their run.
@@ -603,7 +603,7 @@ fn print_plan<S: Store, O: Write>(
 fn print_run<O: Write, E: Write>(
     alloc: Global,
     root: &str,
-    ended: Ended,
+    ended: &Ended,
     (counts, status): (Counts, Status),
     options: MoveOptions<'_>,
     out: &mut O,
@@ -612,7 +612,7 @@ fn print_run<O: Write, E: Write>(
     if options.json {
         return end_in_json(alloc, ended, root, status, out, errors);
     }
-    if !is_done_whole(&ended) {
+    if !is_done_whole(ended) {
         return end(ended, root, out, errors);
     }
     // The work is done, whether this is printed or not.
@@ -624,20 +624,20 @@ fn print_run<O: Write, E: Write>(
 // Prints in JSON what a run left, and in words on standard error why it failed. Returns the status of the call.
 fn end_in_json<O: Write, E: Write>(
     alloc: Global,
-    ended: Ended,
+    ended: &Ended,
     root: &str,
     status: Status,
     out: &mut O,
     errors: &mut E,
 ) -> Status {
     // The work is done or not, whether this is printed or not.
-    let _ = print_remarks_as_json(alloc, out, remarks_of(&ended));
+    let _ = print_remarks_as_json(alloc, out, remarks_of(ended));
     let _ = out.flush();
-    let _ = print_failure(errors, root, &ended);
-    if is_done_whole(&ended) {
+    let _ = print_failure(errors, root, ended);
+    if is_done_whole(ended) {
         status
     } else {
-        status_of(&ended)
+        status_of(ended)
     }
 }
 
@@ -797,9 +797,9 @@ fn end_run<R: Machine, O: Write, E: Write>(
             Err(fault) => Err(fault),
         },
     };
-    match ended {
+    match &ended {
         Ok(ended) => end(ended, root, out, errors),
-        Err(fault) => refuse(root, &fault, errors),
+        Err(fault) => refuse(root, fault, errors),
     }
 }
 
@@ -843,16 +843,15 @@ fn lock<R: Machine>(runtime: &R, root: &str) -> Result<Locked<R::Store>, RunFaul
 }
 
 // Prints how a run ended.
-fn end<O: Write, E: Write>(ended: Ended, root: &str, out: &mut O, errors: &mut E) -> Status {
-    let status = status_of(&ended);
+fn end<O: Write, E: Write>(ended: &Ended, root: &str, out: &mut O, errors: &mut E) -> Status {
     // The work is done or not, whether this is printed or not.
-    let _ = if has_fault(&ended) {
-        print_end(errors, root, &ended)
+    let _ = if has_fault(ended) {
+        print_end(errors, root, ended)
     } else {
-        print_end(out, root, &ended)
+        print_end(out, root, ended)
     };
     let _ = out.flush();
-    status
+    status_of(ended)
 }
 
 // Whether a run didn't end as it was to.
