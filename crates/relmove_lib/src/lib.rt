@@ -6,7 +6,7 @@
 //! ```text
 //! a call              program
 //! what is printed     report  summary
-//! whole pieces        dead_links  moving  moved
+//! whole pieces        dead_links  mentions  moving  moved
 //! questions           losses  writable  destinations
 //! where paths lead    seen  layout  walk
 //! the work            tree  presence
@@ -32,6 +32,7 @@ mod dead_links;
 mod destinations;
 mod layout;
 mod losses;
+mod mentions;
 mod move_list;
 mod moved;
 mod moving;

@@ -331,8 +331,8 @@ fn read_pages<S: Store>(
     Ok(reading)
 }
 
-// Why a page above the limit isn't read.
-const TOO_LONG: &str = "longer than 64 MiB";
+/// Why a file above the limit isn't read.
+pub(crate) const TOO_LONG: &str = "longer than 64 MiB";
 
 // Why a FIFO, a socket or a device isn't read.
 const NO_FILE: &str = "not a regular file";
@@ -390,8 +390,8 @@ impl Reading {
     }
 }
 
-// Whether a page that fails to be read in this way is left out: it can't be read, or it is no longer a regular file.
-fn is_left_out(kind: ErrorKind) -> bool {
+// Whether a file that fails to be read in this way is left out: it can't be read, or it is no longer a regular file.
+pub(crate) fn is_left_out(kind: ErrorKind) -> bool {
     cannot_read(kind) || matches!(kind, ErrorKind::NotFound | ErrorKind::InvalidInput)
 }
 

@@ -12,6 +12,7 @@ mod excluded;
 mod json;
 mod left_alone;
 mod lost;
+mod mentions;
 mod move_lists;
 mod moved;
 mod moving;
