@@ -7,7 +7,7 @@
 //! a call              program
 //! what is printed     report  summary
 //! whole pieces        dead_links  mentions  moving  moved
-//! questions           losses  writable  destinations
+//! questions           emptied  losses  writable  destinations
 //! where paths lead    seen  layout  walk
 //! the work            tree  presence
 //! what all share      position  arguments  move_list  progress
@@ -30,6 +30,7 @@ pub use relmove_plan::NameRule;
 mod arguments;
 mod dead_links;
 mod destinations;
+mod emptied;
 mod layout;
 mod losses;
 mod mentions;

@@ -99,7 +99,7 @@ pub(crate) fn mentions_of<S: Store>(
     let alloc = store.alloc();
     let numbers = numbers_of(alloc, plan.moves.moves())?;
     let olds = old_paths(alloc, tree, &numbers)?;
-    let names = OldNames::of(alloc, &views_of(alloc, &olds)?)?;
+    let names = names_of(alloc, &olds)?;
     let search = Search {
         tree,
         moves: &plan.moves,
@@ -107,11 +107,7 @@ pub(crate) fn mentions_of<S: Store>(
         numbers: &numbers,
         names: &names,
     };
-    let mut found = MentionPlaces::new(alloc, plan.moves.moves())?;
-    search.add_pages(alloc, &plan.pages, &mut found)?;
-    let excluded = normal_paths(alloc, options.excluded)?;
-    search.add_files(store, &excluded, &mut found)?;
-    Ok(found)
+    search.all_places(store, &plan.pages, options.excluded)
 }
 
 // The number of each move, by its old path.
@@ -153,6 +149,12 @@ fn old_paths(
     Ok(olds)
 }
 
+// The names of paths.
+fn names_of(alloc: Global, olds: &[NormalPath]) -> Result<OldNames<'_>, AllocError> {
+    let views = views_of(alloc, olds)?;
+    OldNames::of(alloc, &views)
+}
+
 // Views of paths.
 fn views_of(alloc: Global, paths: &[NormalPath]) -> Result<Vec<NormalView<'_>>, AllocError> {
     let mut views = Vec::with_capacity(alloc, paths.len())?;
@@ -174,6 +176,21 @@ struct Search<'a> {
 }
 
 impl Search<'_> {
+    // The places in pages, and in other files, but for those at and below excluded paths.
+    fn all_places<S: Store>(
+        &self,
+        store: &mut S,
+        news: &[MovedSitePage],
+        excluded: &[&str],
+    ) -> Result<MentionPlaces, RunFault> {
+        let alloc = store.alloc();
+        let mut found = MentionPlaces::new(alloc, self.moves.moves())?;
+        self.add_pages(alloc, news, &mut found)?;
+        let excluded = normal_paths(alloc, excluded)?;
+        self.add_files(store, &excluded, &mut found)?;
+        Ok(found)
+    }
+
     // Adds the places in pages.
     fn add_pages(
         &self,

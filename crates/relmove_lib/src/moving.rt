@@ -70,6 +70,8 @@ pub enum WhyLeft {
     Unchanged(Unchanged),
     /// It leads through a symbolic link, and not to its file after the moves.
     Lost(Loss),
+    /// It leads to a directory that the moves leave empty.
+    Emptied,
     /// Its file has a name in another case, or in another form of Unicode, and the file system takes one for the other.
     OtherSpelling,
 }
@@ -452,6 +454,9 @@ fn watched_loss<S: Store>(
         return Ok(None);
     };
     let file = file.as_relative_path();
+    if watch.is_emptied(file.as_str()) {
+        return Ok(Some(WhyLeft::Emptied));
+    }
     if !watch.sees(file.as_str()) || file.climb() > 0 {
         return Ok(None);
     }

@@ -54,12 +54,12 @@ begins with a slash isn't relative, and isn't changed. Other files aren't change
 name ends in .html, .mdx, .rst, .adoc, .txt, .yml, .yaml, .toml or .json, has the path of what moves and no link that is
 read, a line says so. Fragments aren't checked. Symbolic links aren't followed.
 
-A directory that a run leaves empty is removed, unless a link of a page leads to it. A run with --write first locks
-ROOT and writes the file ROOT/.relmove, its journal. The run gives all that moves and all pages that change names in
-its own directory, ROOT/.relmove-run, and then their new paths. At its end the run removes both. If a run stops in the
-middle, also by a loss of power, --resume or --undo ends this run, and no file is lost. One thing isn't safe: another
-program that puts a file at a path while relmove renames a file to it. A text that somebody changes during the run is
-kept, and printed.
+A directory that a run leaves empty is removed, unless a link of a page leads to it: then the link is printed. A run
+with --write first locks ROOT and writes the file ROOT/.relmove, its journal. The run gives all that moves and all
+pages that change names in its own directory, ROOT/.relmove-run, and then their new paths. At its end the run removes
+both. If a run stops in the middle, also by a loss of power, --resume or --undo ends this run, and no file is lost.
+One thing isn't safe: another program that puts a file at a path while relmove renames a file to it. A text that
+somebody changes during the run is kept, and printed.
 
 Exit status: 0 if all is done, 1 if a link is left that led to a file, or may have, or if a page isn't UTF-8 or has a
 <base href>, or if an old path is written outside the links that are read, or if a symbolic link moves or leads to what

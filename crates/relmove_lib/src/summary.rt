@@ -224,7 +224,7 @@ fn print_left_link<W: Write>(
         WhyLeft::Unchanged(_) => {
             writeln!(out, "{page}:{line}:{column}: {target} {why}, left as it is")
         }
-        WhyLeft::Lost(_) | WhyLeft::OtherSpelling => {
+        WhyLeft::Lost(_) | WhyLeft::OtherSpelling | WhyLeft::Emptied => {
             writeln!(out, "{page}:{line}:{column}: {target} {why}")
         }
     }
@@ -240,6 +240,7 @@ fn why_left(why: WhyLeft) -> &'static str {
         WhyLeft::Lost(Loss::Elsewhere) => {
             "leads through a symbolic link, and to something else after the moves"
         }
+        WhyLeft::Emptied => "leads to a directory that the moves leave empty",
         WhyLeft::OtherSpelling => {
             "leads to a name in another case or form, and may lead to nothing after the moves"
         }

@@ -7,6 +7,7 @@ use std::test::Fail;
 mod arguments;
 mod closed;
 mod destinations;
+mod emptied;
 mod ends;
 mod excluded;
 mod json;
