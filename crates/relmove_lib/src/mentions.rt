@@ -166,16 +166,16 @@ fn views_of(alloc: Global, paths: &[NormalPath]) -> Result<Vec<NormalView<'_>>, 
 
 // What files are searched for.
 #[derive(Clone, Copy)]
-struct Search<'a> {
+struct Search<'a, 'm, 'p> {
     tree: &'a Tree,
-    moves: &'a TreeMoves<'a>,
+    moves: &'a TreeMoves<'m>,
     made: bool,
     // The number of each move, by its old path.
     numbers: &'a BTreeMap<String, usize>,
-    names: &'a OldNames<'a>,
+    names: &'a OldNames<'p>,
 }
 
-impl Search<'_> {
+impl Search<'_, '_, '_> {
     // The places in pages, and in other files, but for those at and below excluded paths.
     fn all_places<S: Store>(
         &self,
@@ -285,12 +285,12 @@ impl Search<'_> {
     }
 
     // Adds the places in the text of a file, apart from what was read.
-    fn add_text(
+    fn add_text<'t>(
         &self,
         alloc: Global,
-        path: &str,
-        text: &str,
-        read: &[TextSpan],
+        path: &'t str,
+        text: &'t str,
+        read: &'t [TextSpan],
         found: &mut MentionPlaces,
     ) -> Result<(), AllocError> {
         let file = FileText {
