@@ -82,7 +82,7 @@ def round_of(caller, top, rng):
     """One round: the faults of six calls that begin together, and how they ended."""
     write_site(top, as_bytes(site(rng)))
     moves = [random_moves(rng) for _ in range(MOVERS)]
-    words = [["--write", "--", str(top), *itertools.chain(*it.items())] for it in moves]
+    words = [["--write", "--quiet-mentions", "--", str(top), *itertools.chain(*it.items())] for it in moves]
     started = [caller.start(it) for it in [*words, ["--resume", str(top)], ["--undo", str(top)]]]
     calls = list(zip([*moves, None, None], [it.end() for it in started]))
     tree = tree_of(top)

@@ -88,7 +88,7 @@ def run(program, *words, **how):
 
 def move_words(top, moves, *options):
     """The arguments that move files below a folder."""
-    return ["--write", *options, "--", str(top), *itertools.chain(*moves.items())]
+    return ["--write", "--quiet-mentions", *options, "--", str(top), *itertools.chain(*moves.items())]
 
 
 def is_between(path):

@@ -52,6 +52,8 @@ pub enum Task<'a> {
         json: bool,
         /// `--verbose`
         verbose: bool,
+        /// `--quiet-mentions`
+        quiet_mentions: bool,
         /// [`NameRule::Any`] with `--any-name`.
         rule: NameRule,
     },
@@ -141,7 +143,7 @@ impl<T: Drop> From<AllocFailed<T>> for WrongCall<'_> {
     }
 }
 
-const OPTIONS: [&str; 14] = [
+const OPTIONS: [&str; 15] = [
     "--help",
     "--version",
     "--check",
@@ -155,6 +157,7 @@ const OPTIONS: [&str; 14] = [
     "--moved",
     "--moves",
     "--verbose",
+    "--quiet-mentions",
     "--trust-journal",
 ];
 
@@ -339,6 +342,7 @@ fn move_of<'a>(alloc: Global, words: &Words<'a>) -> Result<Task<'a>, WrongCall<'
         write: words.has("--write"),
         json: words.has("--json"),
         verbose: words.has("--verbose"),
+        quiet_mentions: words.has("--quiet-mentions"),
         rule: rule_of(words),
     })
 }
@@ -412,6 +416,7 @@ fn check_of<'a>(alloc: Global, words: &Words<'a>) -> Result<Task<'a>, WrongCall<
     words.need_none("--into")?;
     words.need_none("--moved")?;
     words.need_none("--moves")?;
+    words.need_none("--quiet-mentions")?;
     words.need_none("--trust-journal")?;
     Ok(Task::Check {
         root: words.only_root()?,
@@ -428,6 +433,7 @@ fn end_of<'a>(direction: Direction, words: &Words<'a>) -> Result<Task<'a>, Wrong
     words.need_none("--exclude")?;
     words.need_none("--moved")?;
     words.need_none("--moves")?;
+    words.need_none("--quiet-mentions")?;
     words.need_none("--verbose")?;
     words.need_none("--json")?;
     if !words.has("--trust-journal") {

@@ -6,8 +6,8 @@
 //! ```text
 //! a call              program
 //! what is printed     report  summary
-//! whole pieces        dead_links  moving  moved
-//! questions           losses  writable  destinations
+//! whole pieces        dead_links  mentions  moving  moved
+//! questions           emptied  losses  writable  destinations
 //! where paths lead    seen  layout  walk
 //! the work            tree  presence
 //! what all share      position  arguments  move_list  progress
@@ -30,8 +30,10 @@ pub use relmove_plan::NameRule;
 mod arguments;
 mod dead_links;
 mod destinations;
+mod emptied;
 mod layout;
 mod losses;
+mod mentions;
 mod move_list;
 mod moved;
 mod moving;

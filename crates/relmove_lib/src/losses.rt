@@ -1,4 +1,5 @@
 //! Paths that lead to something before moves, and to nothing or to something else after them.
+use crate::emptied::emptied_directories;
 use crate::layout::{Layout, layout_after, layout_before};
 use crate::seen::find;
 use crate::tree::{EntryKind, Tree, has_unread_name};
@@ -8,6 +9,7 @@ use relative_path_moves::TreeMoves;
 use relmove_plan::Plan;
 use relmove_run::{RunFault, Store};
 use std::alloc::{AllocError, Global};
+use std::collections::BTreeSet;
 
 /// Where a path leads after moves that led to something else before them.
 #[derive(Clone, Copy, Debug, PartialEq, Eq)]
@@ -29,6 +31,8 @@ pub(crate) struct Watch<'a> {
     has_symlink: bool,
     // Whether it has a directory whose name begins with a dot, and that isn't read.
     has_dot_directory: bool,
+    // The directories that the moves leave empty, and to which links lead.
+    emptied: BTreeSet<String>,
     plan: &'a Plan<'a>,
     // The tree before the moves and after them, once it was asked for.
     both: Option<(Layout<'a>, Layout<'a>)>,
@@ -46,9 +50,15 @@ impl<'a> Watch<'a> {
             ignores_case: ignores_case(store, tree)?,
             has_symlink: has_symlink(tree),
             has_dot_directory: has_dot_directory(tree),
+            emptied: emptied_directories(store.alloc(), tree, plan)?,
             plan,
             both: None,
         })
+    }
+
+    /// Whether the moves leave the directory at a path empty, although a link leads to it.
+    pub fn is_emptied(&self, path: &str) -> bool {
+        self.emptied.contains(path)
     }
 
     /// Whether anything is asked for of a link to this path that the plan changes or lets stay.

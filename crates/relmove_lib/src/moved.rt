@@ -1,11 +1,13 @@
 //! Moves that somebody made before the call: the tree and its files as they were before the moves, and what is left to do.
-ghost use Rattle.std.specs.Prelude.{◌≡◌, IfOk, length};
+ghost use Rattle.std.specs.Prelude.{◌≡◌, ◌↔◌, IfOk, IsTrue, length};
+ghost use Rattle.relative_path_links.specs.Edits.{targets_of};
+ghost use Rattle.relative_path_links.specs.Targets.{HasTargets};
 
 use crate::dead_links::leads_somewhere;
 use crate::moving::WhyRefused;
 use crate::tree::{EntryKind, Page, Tree, is_at_or_below, normal_text};
 use relative_path::RelativePath;
-use relative_path_links::{Change, Edit, MovedSitePage, SitePage};
+use relative_path_links::{Change, Edit, MovedSitePage, SitePage, edited};
 use relative_path_moves::{MoveTableError, TreeMoves};
 use relative_path_places::{NormalPath, PlaceIndex};
 use relmove_actions::Actions;
@@ -344,23 +346,27 @@ fn text_with(alloc: Global, page: &str, edits: &[Edit]) -> Result<Option<String>
     if !edits.iter().any(|edit| edit.is_new()) {
         return Ok(None);
     }
-    let mut text = String::with_capacity(alloc, page.len())?;
-    let mut at = 0usize;
-    for edit in edits {
-        if let Change::New(new) = &edit.change {
-            let Some(before) = page.get(at..edit.target.start) else {
-                return Ok(None);
-            };
-            text.push_str(before)?;
-            text.push_str(new.as_str())?;
-            at = edit.target.end;
-        }
-    }
-    let Some(rest) = page.get(at..) else {
+    // A plan makes edits in order.
+    if !are_in_order(page, edits) {
         return Ok(None);
-    };
-    text.push_str(rest)?;
-    Ok(Some(text))
+    }
+    Ok(Some(edited(alloc, page, edits)?))
+}
+
+// Whether a page has the targets of edits, each after the end of the one before.
+fn are_in_order(page: &str, edits: &[Edit]) -> bool
+    ensures { IsTrue result ↔ HasTargets page.now 0 (targets_of edits.now) }
+{
+    let mut at = 0;
+    let mut rest = edits;
+    while let Some((edit, others)) = rest.split_first() {
+        if edit.target.start < at || !edit.target.is_of(page) {
+            return false;
+        }
+        at = edit.target.end;
+        rest = others;
+    }
+    true
 }
 
 /// The files of a store, by their paths before moves that were made. It answers questions, and changes nothing.

@@ -4,7 +4,8 @@ use crate::losses::{Loss, Watch};
 use crate::position::{Position, Positions};
 use crate::presence::{Presence, presence_at};
 use crate::tree::{
-    EntryKind, Page, Tree, cannot_read, has_path, has_unread_name, is_read_directory,
+    EntryKind, Page, Tree, cannot_read, has_path, has_unread_name, is_directory_entry,
+    is_read_directory, normal_text,
 };
 use relative_path::RelativePath;
 use relative_path_links::{Change, Edit, Markdown, MovedSitePage, SitePage, Unchanged};
@@ -12,7 +13,8 @@ use relative_path_moves::{Move, TreeMoves};
 use relative_path_places::NormalPath;
 use relmove_plan::{Entry, Kind, NameRule, Plan, Refusal, make_plan};
 use relmove_run::{
-    FoundKind, JOURNAL, LONGEST_PATH, RunFault, Store, SystemCall, at, is_absence, join, need_short,
+    FoundKind, JOURNAL, LONGEST_PATH, RunFault, Store, SystemCall, at, directory_of, is_absence,
+    join, need_short,
 };
 use std::alloc::{AllocError, AllocFailed, Global};
 use std::io::ErrorKind;
@@ -68,6 +70,8 @@ pub enum WhyLeft {
     Unchanged(Unchanged),
     /// It leads through a symbolic link, and not to its file after the moves.
     Lost(Loss),
+    /// It leads to a directory that the moves leave empty.
+    Emptied,
     /// Its file has a name in another case, or in another form of Unicode, and the file system takes one for the other.
     OtherSpelling,
 }
@@ -155,15 +159,9 @@ fn need_read_directories(alloc: Global, moves: &[(&str, &str)]) -> Result<(), Wh
 
 // Whether a path is in a directory below the root whose name begins with a dot, and isn't `.github`.
 fn is_in_dot_directory(alloc: Global, path: &str) -> Result<bool, AllocError> {
-    let normal = RelativePath::new("").join_normalized(alloc, RelativePath::new(path))?;
-    let normal = normal.as_relative_path();
-    if normal.climb() > 0 {
-        return Ok(false);
-    }
-    let Some((directory, _)) = normal.as_str().rsplit_once('/') else {
-        return Ok(false);
-    };
-    Ok(directory.split('/').any(has_unread_name))
+    let normal = normal_text(alloc, path)?;
+    let directory = directory_of(normal.as_str());
+    Ok(RelativePath::new(directory).climb() == 0 && directory.split('/').any(has_unread_name))
 }
 
 // Fails if a path of a move ends in a slash, and what moves is no directory.
@@ -284,11 +282,8 @@ fn cannot_ask(kind: ErrorKind) -> bool {
 
 /// Whether a directory is at a path of a tree.
 pub fn is_directory(alloc: Global, tree: &Tree, path: &str) -> Result<bool, AllocError> {
-    let normal = RelativePath::new("").join_normalized(alloc, RelativePath::new(path))?;
-    match tree.entries.get(normal.as_relative_path().as_str()) {
-        Some(kind) => Ok(*kind == EntryKind::Directory),
-        None => Ok(false),
-    }
+    let normal = normal_text(alloc, path)?;
+    Ok(is_directory_entry(tree, normal.as_str()))
 }
 
 // The plan of moves.
@@ -459,6 +454,9 @@ fn watched_loss<S: Store>(
         return Ok(None);
     };
     let file = file.as_relative_path();
+    if watch.is_emptied(file.as_str()) {
+        return Ok(Some(WhyLeft::Emptied));
+    }
     if !watch.sees(file.as_str()) || file.climb() > 0 {
         return Ok(None);
     }

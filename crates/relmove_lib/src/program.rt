@@ -2,6 +2,7 @@
 use crate::arguments::{Effect, Task, task_of};
 use crate::dead_links::{Checked, check_links};
 use crate::destinations::{NewKind, whole_moves};
+use crate::mentions::{MentionPlaces, SearchOptions, mentions_of};
 use crate::move_list::moves_of_list;
 use crate::moved::{MadeMoves, StoreBefore, keep_dead_targets};
 use crate::moving::{Moving, WhyRefused, moving_of};
@@ -10,10 +11,10 @@ use crate::report::{
     print_remarks, print_remarks_as_json, remarks_of,
 };
 use crate::summary::{
-    Counts, Style, counts_of, print_checked, print_checked_as_json, print_did, print_moving,
-    print_moving_as_json, print_refused, print_would,
+    Counts, Style, counts_of, print_checked, print_checked_as_json, print_did, print_mentions,
+    print_mentions_as_json, print_moving, print_moving_as_json, print_refused, print_would,
 };
-use crate::tree::{Page, Tree, has_reserved_name, read_tree};
+use crate::tree::{Page, Tree, Unread, has_reserved_name, read_tree};
 use crate::writable::need_writable;
 use relative_path_links::MovedSitePage;
 use relmove_actions::Actions;
@@ -117,6 +118,7 @@ fn obey<R: Machine, I: Read, O: Write, E: Write>(
             write,
             json,
             verbose,
+            quiet_mentions,
             rule,
         } => {
             let options = MoveOptions {
@@ -126,6 +128,7 @@ fn obey<R: Machine, I: Read, O: Write, E: Write>(
                 write,
                 json,
                 verbose,
+                quiet_mentions,
                 rule,
             };
             move_below(runtime, root, (&moves, list), options, input, out, errors)
@@ -159,6 +162,7 @@ struct MoveOptions<'a> {
     write: bool,
     json: bool,
     verbose: bool,
+    quiet_mentions: bool,
     rule: NameRule,
 }
 
@@ -394,7 +398,7 @@ fn move_and_write<'m, R: Machine, O: Write, E: Write>(
         carry_out(locked, actions, &texts, &directories)
     };
     let done = (counts, status);
-    Ok(print_run(alloc, root, ended, done, options, out, errors))
+    Ok(print_run(alloc, root, &ended, done, options, out, errors))
 }
 
 // The pages after moves, and the actions of their run.
@@ -529,12 +533,44 @@ fn plan<'a, 'm, S: Store, O: Write, E: Write>(
     if options.made {
         keep_dead_targets(store, tree, &mut moving.plan.pages)?;
     }
-    let counts = counts_of(store.alloc(), tree, moves, &moving, options.made)?;
-    if print_plan(store, tree, &moving, options, out).is_err() {
+    let (counts, status) = report(store, tree, moves, &moving, options, out, errors)?;
+    Ok((moving, counts, status))
+}
+
+// Prints what moves do. Returns what is counted of it, and the status of a run that does all of it.
+fn report<S: Store, O: Write, E: Write>(
+    store: &mut S,
+    tree: &Tree,
+    moves: &[(&str, &str)],
+    moving: &Moving<'_, '_>,
+    options: MoveOptions<'_>,
+    out: &mut O,
+    errors: &mut E,
+) -> Result<(Counts, Status), CallEnd> {
+    let counts = counts_of(store.alloc(), tree, moves, moving, options.made)?;
+    let mentions = asked_mentions(store, tree, &moving.plan, options)?;
+    print_unread_files(&mentions.unread, errors);
+    if print_plan(store, tree, moving, &mentions, options, out).is_err() {
         return Err(CallEnd::Status(Status::Refused));
     }
-    let status = status_of_moving(tree, moves, &moving);
-    Ok((moving, counts, status))
+    Ok((counts, status_of_moving(tree, moves, moving, &mentions)))
+}
+
+// Finds where the old paths of a plan are written, if the call asks for it.
+fn asked_mentions<S: Store>(
+    store: &mut S,
+    tree: &Tree,
+    plan: &Plan<'_>,
+    options: MoveOptions<'_>,
+) -> Result<MentionPlaces, RunFault> {
+    if options.quiet_mentions {
+        return Ok(MentionPlaces::new(store.alloc(), plan.moves.moves())?);
+    }
+    let options = SearchOptions {
+        excluded: options.excluded,
+        made: options.made,
+    };
+    mentions_of(store, tree, plan, options)
 }
 
 // The directories below the root that were read, as texts.
@@ -573,10 +609,16 @@ fn refuse<E: Write>(root: &str, fault: &RunFault, errors: &mut E) -> Status {
 }
 
 // The status of a run that does all of the plan. A page whose links aren't read may have one that is left.
-fn status_of_moving(tree: &Tree, moves: &[(&str, &str)], moving: &Moving<'_, '_>) -> Status {
+fn status_of_moving(
+    tree: &Tree,
+    moves: &[(&str, &str)],
+    moving: &Moving<'_, '_>,
+    mentions: &MentionPlaces,
+) -> Status {
     let keeps_symlinks = moving.plan.symlinks.is_empty() && moving.lost.is_empty();
     let reads_links = moves.is_empty() || tree.not_text.is_empty() && tree.with_base.is_empty();
-    if keeps_symlinks && reads_links && !moving.left.iter().any(|link| link.leads) {
+    let keeps_links = mentions.places.is_empty() && !moving.left.iter().any(|link| link.leads);
+    if keeps_symlinks && reads_links && keeps_links {
         Status::Kept
     } else {
         Status::LinksLeft
@@ -588,13 +630,17 @@ fn print_plan<S: Store, O: Write>(
     store: &S,
     tree: &Tree,
     moving: &Moving<'_, '_>,
+    mentions: &MentionPlaces,
     options: MoveOptions<'_>,
     out: &mut O,
 ) -> io::Result<()> {
+    let moves = moving.plan.moves.moves();
     if options.json {
         print_moving_as_json(store.alloc(), out, tree, moving, options.style())?;
+        print_mentions_as_json(store.alloc(), out, moves, mentions)?;
     } else {
         print_moving(out, store, tree, moving, options.style())?;
+        print_mentions(out, store.root(), moves, mentions)?;
     }
     out.flush()
 }
@@ -603,7 +649,7 @@ fn print_plan<S: Store, O: Write>(
 fn print_run<O: Write, E: Write>(
     alloc: Global,
     root: &str,
-    ended: Ended,
+    ended: &Ended,
     (counts, status): (Counts, Status),
     options: MoveOptions<'_>,
     out: &mut O,
@@ -612,7 +658,7 @@ fn print_run<O: Write, E: Write>(
     if options.json {
         return end_in_json(alloc, ended, root, status, out, errors);
     }
-    if !is_done_whole(&ended) {
+    if !is_done_whole(ended) {
         return end(ended, root, out, errors);
     }
     // The work is done, whether this is printed or not.
@@ -624,20 +670,20 @@ fn print_run<O: Write, E: Write>(
 // Prints in JSON what a run left, and in words on standard error why it failed. Returns the status of the call.
 fn end_in_json<O: Write, E: Write>(
     alloc: Global,
-    ended: Ended,
+    ended: &Ended,
     root: &str,
     status: Status,
     out: &mut O,
     errors: &mut E,
 ) -> Status {
     // The work is done or not, whether this is printed or not.
-    let _ = print_remarks_as_json(alloc, out, remarks_of(&ended));
+    let _ = print_remarks_as_json(alloc, out, remarks_of(ended));
     let _ = out.flush();
-    let _ = print_failure(errors, root, &ended);
-    if is_done_whole(&ended) {
+    let _ = print_failure(errors, root, ended);
+    if is_done_whole(ended) {
         status
     } else {
-        status_of(&ended)
+        status_of(ended)
     }
 }
 
@@ -736,10 +782,7 @@ fn print_unread<E: Write>(root: &str, tree: &Tree, journals: &[Remark], errors: 
             "relmove: {path} has a <base href>, and its links aren't read"
         );
     }
-    for unread in &tree.unread {
-        let (path, why) = (Printable(unread.path.as_str()), unread.why.as_str());
-        let _ = writeln!(errors, "relmove: {path} isn't read: {why}");
-    }
+    print_unread_files(&tree.unread, errors);
     for path in &tree.unreadable_names {
         let path = if path.is_empty() { root } else { path.as_str() };
         let path = Printable(path);
@@ -756,6 +799,14 @@ fn print_unread<E: Write>(root: &str, tree: &Tree, journals: &[Remark], errors: 
                 "relmove: {path} has a name of relmove's own, and there is no run to which it belongs"
             );
         }
+    }
+}
+
+// Prints the files that aren't read, and why.
+fn print_unread_files<E: Write>(files: &[Unread], errors: &mut E) {
+    for unread in files {
+        let (path, why) = (Printable(unread.path.as_str()), unread.why.as_str());
+        let _ = writeln!(errors, "relmove: {path} isn't read: {why}");
     }
 }
 
@@ -797,9 +848,9 @@ fn end_run<R: Machine, O: Write, E: Write>(
             Err(fault) => Err(fault),
         },
     };
-    match ended {
+    match &ended {
         Ok(ended) => end(ended, root, out, errors),
-        Err(fault) => refuse(root, &fault, errors),
+        Err(fault) => refuse(root, fault, errors),
     }
 }
 
@@ -843,16 +894,15 @@ fn lock<R: Machine>(runtime: &R, root: &str) -> Result<Locked<R::Store>, RunFaul
 }
 
 // Prints how a run ended.
-fn end<O: Write, E: Write>(ended: Ended, root: &str, out: &mut O, errors: &mut E) -> Status {
-    let status = status_of(&ended);
+fn end<O: Write, E: Write>(ended: &Ended, root: &str, out: &mut O, errors: &mut E) -> Status {
     // The work is done or not, whether this is printed or not.
-    let _ = if has_fault(&ended) {
-        print_end(errors, root, &ended)
+    let _ = if has_fault(ended) {
+        print_end(errors, root, ended)
     } else {
-        print_end(out, root, &ended)
+        print_end(out, root, ended)
     };
     let _ = out.flush();
-    status
+    status_of(ended)
 }
 
 // Whether a run didn't end as it was to.

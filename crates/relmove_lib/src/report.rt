@@ -8,9 +8,9 @@ use std::io::{self, Write};
 
 /// The usage of the program.
 pub const USAGE: &str =
-    "usage: relmove [--write] [--json] [--verbose] [--any-name] [--moved] [--exclude PATH]... ROOT OLD NEW [OLD NEW]...
-       relmove [--write] [--json] [--verbose] [--any-name] [--moved] [--exclude PATH]... --into DIR ROOT OLD...
-       relmove [--write] [--json] [--verbose] [--any-name] [--moved] [--exclude PATH]... --moves FILE ROOT
+    "usage: relmove [--write] [--json] [--verbose] [--any-name] [--moved] [--quiet-mentions] [--exclude PATH]... ROOT OLD NEW [OLD NEW]...
+       relmove [--write] [--json] [--verbose] [--any-name] [--moved] [--quiet-mentions] [--exclude PATH]... --into DIR ROOT OLD...
+       relmove [--write] [--json] [--verbose] [--any-name] [--moved] [--quiet-mentions] [--exclude PATH]... --moves FILE ROOT
        relmove --check [--json] [--verbose] [--exclude PATH]... ROOT
        relmove --resume [--trust-journal [--write]] ROOT
        relmove --undo [--trust-journal [--write]] ROOT
@@ -37,6 +37,8 @@ output says what would be changed.
               git -C docs diff --relative -M --name-status HEAD | relmove --moved --moves - --write docs
   --exclude PATH
               read no page at or below PATH, a path below ROOT: relmove --exclude api --check docs
+  --quiet-mentions
+              don't say where an old path is written that isn't a link: relmove --quiet-mentions docs old.md new.md
   --check     print each relative link of a page that leads above ROOT, or to a path below ROOT where nothing is
   --resume    end a run that stopped: the run goes on, or, if it was going back, it goes back
   --undo      take back a run that stopped before everything was at its new path
@@ -48,20 +50,21 @@ output says what would be changed.
 Pages are the files below ROOT whose names end in .md or .markdown, in any case, and that are UTF-8. Pages with a name
 in their path that begins with a dot, other than .github, are neither read nor changed. Links are those of Markdown,
 and the attributes href and src of HTML in a page. The links of a page with a <base href> aren't read. A link that
-begins with a slash isn't relative, and isn't changed. Links in other files, such as HTML, aren't changed. Fragments
-aren't checked. Symbolic links aren't followed.
+begins with a slash isn't relative, and isn't changed. Other files aren't changed either. Where a page, or a file whose
+name ends in .html, .mdx, .rst, .adoc, .txt, .yml, .yaml, .toml or .json, has the path of what moves and no link that is
+read, a line says so. Fragments aren't checked. Symbolic links aren't followed.
 
-A directory that a run leaves empty is removed, unless a link of a page leads to it. A run with --write first locks
-ROOT and writes the file ROOT/.relmove, its journal. The run gives all that moves and all pages that change names in
-its own directory, ROOT/.relmove-run, and then their new paths. At its end the run removes both. If a run stops in the
-middle, also by a loss of power, --resume or --undo ends this run, and no file is lost. One thing isn't safe: another
-program that puts a file at a path while relmove renames a file to it. A text that somebody changes during the run is
-kept, and printed.
+A directory that a run leaves empty is removed, unless a link of a page leads to it: then the link is printed. A run
+with --write first locks ROOT and writes the file ROOT/.relmove, its journal. The run gives all that moves and all
+pages that change names in its own directory, ROOT/.relmove-run, and then their new paths. At its end the run removes
+both. If a run stops in the middle, also by a loss of power, --resume or --undo ends this run, and no file is lost.
+One thing isn't safe: another program that puts a file at a path while relmove renames a file to it. A text that
+somebody changes during the run is kept, and printed.
 
 Exit status: 0 if all is done, 1 if a link is left that led to a file, or may have, or if a page isn't UTF-8 or has a
-<base href>, or if a symbolic link moves or leads to what moves, or if a run left something to look at, such as a text
-that was changed during the run (with --check: if a link is dead), 2 if the call was wrong or failed and nothing was
-changed, 3 if a run stopped in the middle.
+<base href>, or if an old path is written outside the links that are read, or if a symbolic link moves or leads to what
+moves, or if a run left something to look at, such as a text that was changed during the run (with --check: if a link is
+dead), 2 if the call was wrong or failed and nothing was changed, 3 if a run stopped in the middle.
 ";
 
 /// Prints a dead link: page, line, column and target.

@@ -1,11 +1,13 @@
 //! What a call that moves files prints.
 use crate::dead_links::Checked;
 use crate::losses::Loss;
+use crate::mentions::{MOST_PLACES, MentionPlace, MentionPlaces, shown_path};
 use crate::moving::{LeftLink, LostSymlink, Moving, WhyLeft, WhyRefused, is_directory};
 use crate::position::{Position, Positions};
 use crate::tree::{Page, Tree};
 use relative_path::RelativePath;
 use relative_path_links::{Change, MovedSitePage, Unchanged};
+use relative_path_moves::Move;
 use relmove_plan::{Refusal, SymlinkNotice};
 use relmove_run::{Printable, Store};
 use serde_json::json;
@@ -139,14 +141,7 @@ fn printed_path(
     style: Style,
     path: &str,
 ) -> Result<String, AllocError> {
-    if !style.made {
-        return String::from_str(alloc, path);
-    }
-    let now = moving
-        .plan
-        .moves
-        .path_after(alloc, RelativePath::new(path))?;
-    Ok(now.into_relative_path_buf().into_string())
+    shown_path(alloc, &moving.plan.moves, style.made, path)
 }
 
 // The path by which a page is named.
@@ -229,7 +224,7 @@ fn print_left_link<W: Write>(
         WhyLeft::Unchanged(_) => {
             writeln!(out, "{page}:{line}:{column}: {target} {why}, left as it is")
         }
-        WhyLeft::Lost(_) | WhyLeft::OtherSpelling => {
+        WhyLeft::Lost(_) | WhyLeft::OtherSpelling | WhyLeft::Emptied => {
             writeln!(out, "{page}:{line}:{column}: {target} {why}")
         }
     }
@@ -245,6 +240,7 @@ fn why_left(why: WhyLeft) -> &'static str {
         WhyLeft::Lost(Loss::Elsewhere) => {
             "leads through a symbolic link, and to something else after the moves"
         }
+        WhyLeft::Emptied => "leads to a directory that the moves leave empty",
         WhyLeft::OtherSpelling => {
             "leads to a name in another case or form, and may lead to nothing after the moves"
         }
@@ -413,6 +409,91 @@ fn print_symlink_as_json<W: Write>(
     why: &str,
 ) -> io::Result<()> {
     let object = json!(in alloc; { "link": link, "why": why })?;
+    let text = object.to_string(alloc)?;
+    writeln!(out, "{text}")
+}
+
+/// Prints where old paths are written: a line for each place, and for each move that has more places how many more.
+pub(crate) fn print_mentions<W: Write>(
+    out: &mut W,
+    root: &str,
+    moves: &[Move<'_>],
+    mentions: &MentionPlaces,
+) -> io::Result<()> {
+    for place in &mentions.places {
+        print_mention(out, root, place)?;
+    }
+    for (a, count) in moves.iter().zip(&mentions.counts) {
+        print_more(out, a, count.saturating_sub(MOST_PLACES))?;
+    }
+    Ok(())
+}
+
+// Prints a place where an old path is written.
+fn print_mention<W: Write>(out: &mut W, root: &str, place: &MentionPlace) -> io::Result<()> {
+    let (path, line) = (place.file.as_str(), place.line);
+    let (file, old) = (Below { root, path }, Printable(place.old.as_str()));
+    writeln!(
+        out,
+        "{file}:{line}: {old} is written here, and isn't a link that is read"
+    )
+}
+
+// Prints in how many more places the old paths of a move are written, if there are any.
+fn print_more<W: Write>(out: &mut W, a: &Move<'_>, number: usize) -> io::Result<()> {
+    if number == 0 {
+        return Ok(());
+    }
+    let old = Printable(a.old.normal().as_relative_path().as_str());
+    let places = Counted {
+        number,
+        word: "more place",
+    };
+    writeln!(out, "{old}: written in {places}")
+}
+
+/// Prints where old paths are written, an object of JSON on each line.
+pub(crate) fn print_mentions_as_json<W: Write>(
+    alloc: Global,
+    out: &mut W,
+    moves: &[Move<'_>],
+    mentions: &MentionPlaces,
+) -> io::Result<()> {
+    for place in &mentions.places {
+        print_mention_as_json(alloc, out, place)?;
+    }
+    for (a, count) in moves.iter().zip(&mentions.counts) {
+        print_more_as_json(alloc, out, a, count.saturating_sub(MOST_PLACES))?;
+    }
+    Ok(())
+}
+
+// Prints a place where an old path is written.
+fn print_mention_as_json<W: Write>(
+    alloc: Global,
+    out: &mut W,
+    place: &MentionPlace,
+) -> io::Result<()> {
+    let (file, old) = (place.file.as_str(), place.old.as_str());
+    let line = place.line as u64;
+    let object = json!(in alloc; { "file": file, "line": line, "old": old })?;
+    let text = object.to_string(alloc)?;
+    writeln!(out, "{text}")
+}
+
+// Prints in how many more places the old paths of a move are written, if there are any.
+fn print_more_as_json<W: Write>(
+    alloc: Global,
+    out: &mut W,
+    a: &Move<'_>,
+    number: usize,
+) -> io::Result<()> {
+    if number == 0 {
+        return Ok(());
+    }
+    let old = a.old.normal().as_relative_path().as_str();
+    let more = number as u64;
+    let object = json!(in alloc; { "old": old, "more": more })?;
     let text = object.to_string(alloc)?;
     writeln!(out, "{text}")
 }

@@ -1,6 +1,7 @@
 //! Reads what is below the root: directories, files, links, and the texts of pages.
 use markdown_targets::link_targets;
 use relative_path::RelativePath;
+use relmove_mentions::is_page;
 use relmove_run::{
     Found, FoundKind, PageFile, RunFault, STAGING, Store, SystemCall, at, join, name_of,
 };
@@ -316,7 +317,7 @@ fn read_pages<S: Store>(
     let alloc = store.alloc();
     let mut reading = Reading::new(alloc);
     for (path, kind) in entries {
-        if is_page(path.as_str()) && !is_at_or_below(excluded, path.as_str()) {
+        if is_read_page(path.as_str()) && !is_at_or_below(excluded, path.as_str()) {
             match kind {
                 EntryKind::File if long_files.contains(path.as_str()) => {
                     reading.leave_out(alloc, path.as_str(), TOO_LONG)?
@@ -330,8 +331,8 @@ fn read_pages<S: Store>(
     Ok(reading)
 }
 
-// Why a page above the limit isn't read.
-const TOO_LONG: &str = "longer than 64 MiB";
+/// Why a file above the limit isn't read.
+pub(crate) const TOO_LONG: &str = "longer than 64 MiB";
 
 // Why a FIFO, a socket or a device isn't read.
 const NO_FILE: &str = "not a regular file";
@@ -389,8 +390,8 @@ impl Reading {
     }
 }
 
-// Whether a page that fails to be read in this way is left out: it can't be read, or it is no longer a regular file.
-fn is_left_out(kind: ErrorKind) -> bool {
+// Whether a file that fails to be read in this way is left out: it can't be read, or it is no longer a regular file.
+pub(crate) fn is_left_out(kind: ErrorKind) -> bool {
     cannot_read(kind) || matches!(kind, ErrorKind::NotFound | ErrorKind::InvalidInput)
 }
 
@@ -434,20 +435,7 @@ pub(crate) fn has_reserved_name(path: &str) -> bool {
     name_of(path).starts_with(STAGING)
 }
 
-// Whether a file at a path is a page.
-fn is_page(path: &str) -> bool {
-    let name = name_of(path);
-    !name.starts_with('.') && (ends_in(name, ".md") || ends_in(name, ".markdown"))
-}
-
-// Whether a name ends in an extension, in any case.
-fn ends_in(name: &str, extension: &str) -> bool {
-    let end = name
-        .len()
-        .checked_sub(extension.len())
-        .and_then(|start| name.get(start..));
-    match end {
-        Some(end) => end.eq_ignore_ascii_case(extension),
-        None => false,
-    }
+// Whether a file at a path is a page that is read.
+fn is_read_page(path: &str) -> bool {
+    !name_of(path).starts_with('.') && is_page(RelativePath::new(path))
 }

@@ -12,8 +12,8 @@
 
 pub use self::file_text::FileText;
 pub use self::mentions::Mention;
-pub use self::old_names::OldNames;
-pub use self::text_span::TextSpan;
+pub use self::old_names::{OldNames, is_page};
+pub use self::text_span::{TextSpan, are_spans_in_order};
 
 mod file_text;
 mod mentions;

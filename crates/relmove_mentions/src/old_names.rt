@@ -213,8 +213,14 @@ fn larger(one: usize, other: usize) -> usize
     if one < other { other } else { one }
 }
 
-// Returns whether a path is that of a page.
-fn is_page(path: RelativePath<'_>) -> bool
+/// Returns whether a path is that of a page: whether it has the extension `md` or `markdown`, in any case. Allocates
+/// nothing.
+///
+/// ```
+/// assert!(rt; is_page(RelativePath::new("docs/setup.MD")));
+/// assert!(rt; !is_page(RelativePath::new("docs/.md")));
+/// ```
+pub fn is_page(path: RelativePath<'_>) -> bool
     ensures { result ≡ is_page (file_name_of (path_text path.entry)) }
 {
     match path.extension() {

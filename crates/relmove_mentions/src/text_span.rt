@@ -1,6 +1,7 @@
 //! Spans of a text, and where one can begin and end.
-ghost use Rattle.std.specs.Prelude.{◌≡◌, ◌≤◌, length};
+ghost use Rattle.std.specs.Prelude.{◌≡◌, ◌≤◌, ◌↔◌, IsTrue, length};
 ghost use Rattle.relmove_mentions.specs.Spans.{
+  FollowFrom,
   is_bounded_after,
   is_bounded_before,
   is_path_byte,
@@ -19,6 +20,29 @@ pub struct TextSpan {
     pub start: usize,
     /// The offset after the last byte.
     pub end: usize,
+}
+
+/// Returns whether spans are in order, without overlap: what [`OldNames::mentions`](crate::OldNames::mentions) needs of what
+/// was read. Allocates nothing; time is linear in the spans.
+///
+/// ```
+/// let [a, c] = [(4, 5), (11, 12)].map(|(start, end)| TextSpan { start, end });
+/// assert!(rt; are_spans_in_order(&[a, c]));
+/// assert!(rt; !are_spans_in_order(&[c, a]));
+/// ```
+pub fn are_spans_in_order(spans: &[TextSpan]) -> bool
+    ensures { IsTrue result ↔ FollowFrom 0 spans.now }
+{
+    let mut at = 0;
+    let mut rest = spans;
+    while let Some((span, others)) = rest.split_first() {
+        if span.start < at || span.end < span.start {
+            return false;
+        }
+        at = span.end;
+        rest = others;
+    }
+    true
 }
 
 // Returns whether a path goes on with a byte.

@@ -25,6 +25,7 @@ fn moves<'a>(
         write,
         json,
         verbose: false,
+        quiet_mentions: false,
         rule,
     })
 }
@@ -76,6 +77,7 @@ fn moves_into<'a>(
         write,
         json: false,
         verbose: false,
+        quiet_mentions: false,
         rule: NameRule::Plain,
     })
 }
@@ -150,6 +152,7 @@ fn moves_without_what_is_excluded(rt: HostRuntime) -> Result<(), Fail> {
         write: false,
         json: false,
         verbose: false,
+        quiet_mentions: false,
         rule: NameRule::Plain,
     };
     means(alloc, &words, expected)
@@ -205,7 +208,11 @@ fn prints_more(rt: HostRuntime) -> Result<(), Fail> {
 }
 
 // The call that moves by a list.
-fn listed<'a>(alloc: Global, list: &'a str, [made, verbose]: [bool; 2]) -> Task<'a> {
+fn listed<'a>(
+    alloc: Global,
+    list: &'a str,
+    [made, verbose, quiet_mentions]: [bool; 3],
+) -> Task<'a> {
     Task::Move {
         root: "docs",
         moves: Vec::new(alloc),
@@ -216,6 +223,7 @@ fn listed<'a>(alloc: Global, list: &'a str, [made, verbose]: [bool; 2]) -> Task<
         write: false,
         json: false,
         verbose,
+        quiet_mentions,
         rule: NameRule::Plain,
     }
 }
@@ -224,11 +232,17 @@ fn listed<'a>(alloc: Global, list: &'a str, [made, verbose]: [bool; 2]) -> Task<
 fn moves_by_a_list(rt: HostRuntime) -> Result<(), Fail> {
     let alloc = rt.alloc();
     let words = ["--moves", "m", "docs"];
-    means(alloc, &words, listed(alloc, "m", [false, false]))?;
+    means(alloc, &words, listed(alloc, "m", [false, false, false]))?;
     let words = ["docs", "--moved", "--moves", "-"];
-    means(alloc, &words, listed(alloc, "-", [true, false]))?;
+    means(alloc, &words, listed(alloc, "-", [true, false, false]))?;
     let words = ["--verbose", "docs", "--moves", "--moved"];
-    means(alloc, &words, listed(alloc, "--moved", [false, true]))
+    means(
+        alloc,
+        &words,
+        listed(alloc, "--moved", [false, true, false]),
+    )?;
+    let words = ["docs", "--moves", "m", "--quiet-mentions"];
+    means(alloc, &words, listed(alloc, "m", [false, false, true]))
 }
 
 // Each option with each command that lacks it.
@@ -250,9 +264,15 @@ const OF_ANOTHER: [(&[&str], &str); 14] = [
 ];
 
 // The options of moves that the other commands lack.
-const OF_MOVES: [(&[&str], &str); 9] = [
+const OF_MOVES: [(&[&str], &str); 12] = [
     (&["--check", "--moved", "docs"], "--moved"),
     (&["--check", "--moves", "m", "docs"], "--moves"),
+    (&["--check", "--quiet-mentions", "docs"], "--quiet-mentions"),
+    (
+        &["--resume", "--quiet-mentions", "docs"],
+        "--quiet-mentions",
+    ),
+    (&["--undo", "--quiet-mentions", "docs"], "--quiet-mentions"),
     (&["--resume", "--moved", "docs"], "--moved"),
     (&["--resume", "--moves", "m", "docs"], "--moves"),
     (&["--resume", "--verbose", "docs"], "--verbose"),

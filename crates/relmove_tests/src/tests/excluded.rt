@@ -152,8 +152,8 @@ fn reads_pages_in_any_case(rt: HostRuntime) -> Result<(), Fail> {
             ("p.Markdown", Some("[a](b.txt)")),
             ("q.mdx", Some("[a](a.txt)")),
         ],
-        status: Status::Kept,
-        printed: "site/README.MD: 1 link\nsite/p.Markdown: 1 link\n2 pages changed, 1 file moved.\n",
+        status: Status::LinksLeft,
+        printed: "site/README.MD: 1 link\nsite/p.Markdown: 1 link\nsite/q.mdx:1: a.txt is written here, and isn't a link that is read\n2 pages changed, 1 file moved.\n",
     };
     does(rt.alloc(), &row)
 }

@@ -177,7 +177,7 @@ const LONG: &[Place] = &[
     ("l.txt", Some("ll")),
 ];
 
-// 64 MiB are the longest page.
+// 64 MiB are the longest page, and the longest file that is searched for old paths.
 #[test]
 fn passes_over_a_page_that_is_too_long(rt: HostRuntime) -> Result<(), Fail> {
     let disk = disk_of(rt.alloc(), LONG)?;
@@ -186,6 +186,8 @@ fn passes_over_a_page_that_is_too_long(rt: HostRuntime) -> Result<(), Fail> {
     let unread = "relmove: l.md isn't read: longer than 64 MiB\n";
     let expected = (Status::Kept, "", unread);
     answers(rt.alloc(), &disk, &["--check", "site"], expected)?;
+    let unread =
+        "relmove: l.md isn't read: longer than 64 MiB\nrelmove: l.txt isn't read: longer than 64 MiB\n";
     let expected = (Status::Kept, "0 pages changed, 1 file moved.\n", unread);
     let words = ["--write", "site", "a.md", "b.md"];
     answers(rt.alloc(), &disk, &words, expected)

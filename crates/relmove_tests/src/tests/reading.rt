@@ -151,6 +151,17 @@ pub fn answers(
     words: &[&str],
     expected: (Status, &str, &str),
 ) -> Result<(), Fail> {
+    answers_in(alloc, "a call", disk, words, expected)
+}
+
+/// Fails in the words of this case where a call has another status, or prints something else.
+pub fn answers_in(
+    alloc: Global,
+    case: &str,
+    disk: &Disk,
+    words: &[&str],
+    expected: (Status, &str, &str),
+) -> Result<(), Fail> {
     let (mut out, mut errors) = (Vec::new(alloc), Vec::new(alloc));
     let status = answer(
         &DiskMachine(disk),
@@ -160,11 +171,7 @@ pub fn answers(
         &mut errors,
     );
     let (out, errors) = (String::from_utf8(out)?, String::from_utf8(errors)?);
-    same(
-        "a call",
-        &(status, out.as_str(), errors.as_str()),
-        &expected,
-    )
+    same(case, &(status, out.as_str(), errors.as_str()), &expected)
 }
 
 #[test]

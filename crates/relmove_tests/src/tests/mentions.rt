@@ -1,0 +1,331 @@
+//! Where the old paths of a run are written, apart from links that are read.
+use crate::tests::moving::{Row, does};
+use crate::tests::reading::{answers, answers_in};
+use relmove_disk::{Content, Disk, Place, disk_of};
+use relmove_lib::Status;
+use std::alloc::Global;
+use std::test::Fail;
+
+// What a call prints that would move a page, and change none.
+const WOULD: &str = "0 pages would change, 1 file would move. Nothing is written: add --write.\n";
+
+// A site with a page that moves, and a file with this text.
+fn site_with(alloc: Global, path: &str, text: &[u8]) -> Result<Disk, Fail> {
+    let disk = disk_of(alloc, &[("guide", None), ("guide/a.md", Some("aa"))])?;
+    disk.add(path, Content::File(Vec::from_slice(alloc, text)?))?;
+    Ok(disk)
+}
+
+// Whether a call that moves a page names its old path in this line of a file with this text, or in none.
+fn names(
+    alloc: Global,
+    case: &str,
+    (path, text): (&str, &str),
+    line: Option<usize>,
+) -> Result<(), Fail> {
+    let disk = site_with(alloc, path, text.as_bytes())?;
+    let (status, mut printed) = match line {
+        Some(line) => (
+            Status::LinksLeft,
+            format!(in alloc;
+                "{path}:{line}: guide/a.md is written here, and isn't a link that is read\n"
+            )?,
+        ),
+        None => (Status::Kept, String::new(alloc)),
+    };
+    printed.push_str(WOULD)?;
+    let words = ["site", "guide/a.md", "b.md"];
+    answers_in(alloc, case, &disk, &words, (status, printed.as_str(), ""))
+}
+
+// A page with the old path outside the links that are read, and the line in which it is.
+const IN_PAGES: [(&str, &str, usize); 12] = [
+    ("front matter", "---\nnext: guide/a.md\n---\n", 2),
+    ("an include", "x\n\n{{#include guide/a.md}}\n", 3),
+    ("an attribute", "<img srcset='guide/a.md 2x'>\n", 1),
+    ("indented text", "!!! note\n\n    [A](guide/a.md)\n", 3),
+    ("code", "Call `cat guide/a.md`.\n", 1),
+    ("a path from the root", "[A](/guide/a.md#top)\n", 1),
+    ("a page as HTML", "[A](guide/a.html)\n", 1),
+    ("a page as a directory", "<a href='guide/a/'>A</a>\n", 1),
+    ("a page without its extension", "[A]: guide/a\n", 1),
+    ("a name without a definition", "[A][guide/a.md]\n", 1),
+    ("a template", "[A]({{top}}/guide/a.md)\n", 1),
+    ("a wiki link", "[[guide/a]]\n", 1),
+];
+
+#[test]
+fn names_places_in_pages(rt: HostRuntime) -> Result<(), Fail> {
+    for (case, text, line) in &IN_PAGES {
+        names(rt.alloc(), case, ("site/p.md", text), Some(*line))?;
+    }
+    Ok(())
+}
+
+// A file with the old path.
+const IN_FILES: [(&str, (&str, &str), usize); 12] = [
+    ("a nav", ("site/m.yml", "nav:\n  - A: guide/a.md\n"), 2),
+    ("encoded", ("site/m.txt", "x\r\nguide/%61.md\n"), 2),
+    ("HTML", ("site/i.html", "<a href=guide/a.html>A</a>"), 1),
+    (
+        "from its own directory",
+        ("site/guide/m.rst", "see a.md"),
+        1,
+    ),
+    ("from above", ("site/guide/m.adoc", "see ../guide/a.md"), 1),
+    ("from the root", ("site/guide/m.mdx", "see guide/a.md"), 1),
+    ("JSON", ("site/m.JSON", "{\"a\": \"./guide//a.md\"}"), 1),
+    ("a table", ("site/m.toml", "\n\na = '/guide/a'"), 3),
+    ("a value", ("site/guide/m.yaml", "- a"), 1),
+    (
+        "a name that begins with a dot",
+        ("site/.m.yml", "guide/a.md"),
+        1,
+    ),
+    (
+        "twice in a line",
+        ("site/m.txt", "x\n/guide/a.md guide/a.md\n"),
+        2,
+    ),
+    ("in quotes", ("site/guide/m.txt", "ref \"a\"\n"), 1),
+];
+
+#[test]
+fn names_places_in_other_files(rt: HostRuntime) -> Result<(), Fail> {
+    for (case, file, line) in &IN_FILES {
+        names(rt.alloc(), case, *file, Some(*line))?;
+    }
+    Ok(())
+}
+
+// A file in which no old path is written.
+const NONE: [(&str, (&str, &str)); 7] = [
+    (
+        "a longer path",
+        ("site/m.txt", "old/guide/a.md guide/a.mdx xguide/a.md"),
+    ),
+    (
+        "a word in sentences",
+        ("site/guide/p.md", "This is a page.\n"),
+    ),
+    ("a word alone elsewhere", ("site/m.yml", "- a")),
+    ("a name alone elsewhere", ("site/m.txt", "a.md")),
+    ("another extension", ("site/m.js", "guide/a.md")),
+    ("a page that isn't read", ("site/.p.md", "guide/a.md")),
+    ("another site", ("site/m.txt", "https://x.org/guide/a.md")),
+];
+
+#[test]
+fn names_nothing_else(rt: HostRuntime) -> Result<(), Fail> {
+    for (case, file) in &NONE {
+        names(rt.alloc(), case, *file, None)?;
+    }
+    Ok(())
+}
+
+#[test]
+fn passes_over_a_file_that_is_not_utf_8(rt: HostRuntime) -> Result<(), Fail> {
+    let disk = site_with(rt.alloc(), "site/m.txt", b"guide/a.md \xff")?;
+    let words = ["site", "guide/a.md", "b.md"];
+    answers(rt.alloc(), &disk, &words, (Status::Kept, WOULD, ""))
+}
+
+// A site in which paths below a directory are written, and one page.
+const SITE: &[Place] = &[
+    (".d", None),
+    (".d/m.yml", Some("guide/a.md")),
+    ("guide", None),
+    ("guide/a.md", Some("aa")),
+    ("guide/b.md", Some("bb")),
+    ("m.yml", Some("- guide/a.md\n- guide/b.md\n- n.md\n")),
+    ("n.md", Some("`guide/b.md`")),
+    ("x", None),
+    ("x/m.txt", Some("/guide/")),
+];
+
+// A call, its status, and what it prints.
+const CALLS: [(&str, &[&str], Status, &str); 9] = [
+    (
+        "two moves",
+        &["site", "guide", "g", "n.md", "o.md"],
+        Status::LinksLeft,
+        "site/n.md:1: guide/b.md is written here, and isn't a link that is read\nsite/m.yml:1: guide/a.md is written here, and isn't a link that is read\nsite/m.yml:2: guide/b.md is written here, and isn't a link that is read\nsite/m.yml:3: n.md is written here, and isn't a link that is read\nsite/x/m.txt:1: guide is written here, and isn't a link that is read\n0 pages would change, 1 file and 1 directory would move. Nothing is written: add --write.\n",
+    ),
+    (
+        "no lines",
+        &["--quiet-mentions", "site", "guide", "g"],
+        Status::Kept,
+        "0 pages would change, 1 directory would move. Nothing is written: add --write.\n",
+    ),
+    (
+        "no objects",
+        &["--quiet-mentions", "--json", "site", "guide", "g"],
+        Status::Kept,
+        "",
+    ),
+    (
+        "an object",
+        &["--json", "site", "guide/a.md", "a.md"],
+        Status::LinksLeft,
+        "{\"file\":\"m.yml\",\"line\":1,\"old\":\"guide/a.md\"}\n",
+    ),
+    (
+        "without a file",
+        &["--exclude", "m.yml", "site", "guide/b.md", "b.md"],
+        Status::LinksLeft,
+        "site/n.md:1: guide/b.md is written here, and isn't a link that is read\n0 pages would change, 1 file would move. Nothing is written: add --write.\n",
+    ),
+    (
+        "without any",
+        &[
+            "--exclude",
+            "m.yml",
+            "--exclude",
+            "n.md",
+            "--exclude",
+            "x",
+            "site",
+            "guide",
+            "g",
+        ],
+        Status::Kept,
+        "0 pages would change, 1 directory would move. Nothing is written: add --write.\n",
+    ),
+    (
+        "no such path",
+        &["--moved", "site", "g/m.yml", "m.yml", "old.md", "n.md"],
+        Status::Kept,
+        "0 pages would change. Nothing is written: add --write.\n",
+    ),
+    (
+        "two old paths of three",
+        &[
+            "--moved",
+            "site",
+            "x.md",
+            "n.md",
+            "guide/c.md",
+            "x/m.txt",
+            "n.md",
+            "guide/a.md",
+        ],
+        Status::LinksLeft,
+        "site/m.yml:3: n.md is written here, and isn't a link that is read\n0 pages would change. Nothing is written: add --write.\n",
+    ),
+    ("a check", &["--check", "site"], Status::Kept, ""),
+];
+
+#[test]
+fn names_places_of_each_move(rt: HostRuntime) -> Result<(), Fail> {
+    for (case, words, status, printed) in &CALLS {
+        let disk = disk_of(rt.alloc(), SITE)?;
+        answers_in(rt.alloc(), case, &disk, words, (*status, printed, ""))?;
+    }
+    Ok(())
+}
+
+#[test]
+fn names_files_where_they_are_now(rt: HostRuntime) -> Result<(), Fail> {
+    let row = Row {
+        words: &["--moved", "--write", "site", "guide", "g"],
+        before: &[
+            ("g", None),
+            ("g/a.md", Some("[b](b.md)")),
+            ("g/m.yml", Some("- /guide/a.md")),
+            ("p.md", Some("[a](guide/a.md)")),
+        ],
+        after: &[
+            ("g", None),
+            ("g/a.md", Some("[b](b.md)")),
+            ("g/m.yml", Some("- /guide/a.md")),
+            ("p.md", Some("[a](g/a.md)")),
+        ],
+        status: Status::LinksLeft,
+        printed: "site/p.md: 1 link\nsite/g/m.yml:1: guide/a.md is written here, and isn't a link that is read\n1 page changed.\n",
+    };
+    does(rt.alloc(), &row)
+}
+
+// A file with the old path in each of twelve lines.
+const TWELVE: &str = "a.md\na.md\na.md\na.md\na.md\na.md\na.md\na.md\na.md\na.md\na.md\na.md\n";
+
+// Ten of the lines, and how many more there are.
+const TEN: &str =
+    "site/m.txt:1: a.md is written here, and isn't a link that is read\nsite/m.txt:2: a.md is written here, and isn't a link that is read\nsite/m.txt:3: a.md is written here, and isn't a link that is read\nsite/m.txt:4: a.md is written here, and isn't a link that is read\nsite/m.txt:5: a.md is written here, and isn't a link that is read\nsite/m.txt:6: a.md is written here, and isn't a link that is read\nsite/m.txt:7: a.md is written here, and isn't a link that is read\nsite/m.txt:8: a.md is written here, and isn't a link that is read\nsite/m.txt:9: a.md is written here, and isn't a link that is read\nsite/m.txt:10: a.md is written here, and isn't a link that is read\nsite/n.txt:1: b.md is written here, and isn't a link that is read\na.md: written in 2 more places\n0 pages changed, 2 files moved.\n";
+
+#[test]
+fn names_ten_places_of_a_move(rt: HostRuntime) -> Result<(), Fail> {
+    let row = Row {
+        words: &["--write", "site", "a.md", "c.md", "b.md", "d.md"],
+        before: &[
+            ("a.md", Some("aa")),
+            ("b.md", Some("bb")),
+            ("m.txt", Some(TWELVE)),
+            ("n.txt", Some("b.md")),
+        ],
+        after: &[
+            ("c.md", Some("aa")),
+            ("d.md", Some("bb")),
+            ("m.txt", Some(TWELVE)),
+            ("n.txt", Some("b.md")),
+        ],
+        status: Status::LinksLeft,
+        printed: TEN,
+    };
+    does(rt.alloc(), &row)
+}
+
+// The ten as objects, and how many more there are.
+const TEN_OBJECTS: &str =
+    "{\"file\":\"m.txt\",\"line\":1,\"old\":\"a.md\"}\n{\"file\":\"m.txt\",\"line\":2,\"old\":\"a.md\"}\n{\"file\":\"m.txt\",\"line\":3,\"old\":\"a.md\"}\n{\"file\":\"m.txt\",\"line\":4,\"old\":\"a.md\"}\n{\"file\":\"m.txt\",\"line\":5,\"old\":\"a.md\"}\n{\"file\":\"m.txt\",\"line\":6,\"old\":\"a.md\"}\n{\"file\":\"m.txt\",\"line\":7,\"old\":\"a.md\"}\n{\"file\":\"m.txt\",\"line\":8,\"old\":\"a.md\"}\n{\"file\":\"m.txt\",\"line\":9,\"old\":\"a.md\"}\n{\"file\":\"m.txt\",\"line\":10,\"old\":\"a.md\"}\n{\"more\":2,\"old\":\"a.md\"}\n";
+
+#[test]
+fn prints_places_as_objects(rt: HostRuntime) -> Result<(), Fail> {
+    let disk = disk_of(rt.alloc(), &[("a.md", Some("aa")), ("m.txt", Some(TWELVE))])?;
+    let words = ["--json", "site", "a.md", "c.md"];
+    answers(
+        rt.alloc(),
+        &disk,
+        &words,
+        (Status::LinksLeft, TEN_OBJECTS, ""),
+    )
+}
+
+// A page with links to a directory. The directory's index page leaves, the directory moves, or another page leaves.
+const INDEX: &[Place] = &[
+    ("guide", None),
+    ("guide/README.md", Some("rr")),
+    ("guide/a.md", Some("[up](../guide)")),
+    ("p.md", Some("[g](guide/)\n<a href='guide'>g</a>\n")),
+];
+
+// A call, and what it prints.
+const INDEX_CALLS: [(&str, &[&str], Status, &str); 3] = [
+    (
+        "the index page leaves",
+        &["site", "guide/README.md", "r.md"],
+        Status::LinksLeft,
+        "site/guide/a.md:1: guide/README.md is written here, and isn't a link that is read\nsite/p.md:1: guide/README.md is written here, and isn't a link that is read\nsite/p.md:2: guide/README.md is written here, and isn't a link that is read\n0 pages would change, 1 file would move. Nothing is written: add --write.\n",
+    ),
+    (
+        "the directory moves",
+        &["site", "guide", "g"],
+        Status::Kept,
+        "site/g/a.md, from site/guide/a.md: 1 link\nsite/p.md: 2 links\n2 pages would change, 1 directory would move. Nothing is written: add --write.\n",
+    ),
+    (
+        "another page leaves",
+        &["site", "guide/a.md", "guide/b.md"],
+        Status::Kept,
+        "0 pages would change, 1 file would move. Nothing is written: add --write.\n",
+    ),
+];
+
+#[test]
+fn names_links_to_a_directory_whose_index_page_leaves(rt: HostRuntime) -> Result<(), Fail> {
+    for (case, words, status, printed) in &INDEX_CALLS {
+        let disk = disk_of(rt.alloc(), INDEX)?;
+        answers_in(rt.alloc(), case, &disk, words, (*status, printed, ""))?;
+    }
+    Ok(())
+}
