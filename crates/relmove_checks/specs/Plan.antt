@@ -6,7 +6,7 @@ use Rattle.relmove_checks.specs.declared.entry.Entry.{Entry}
 use Rattle.relmove_checks.specs.declared.name_rule.NameRule.{NameRule}
 use Rattle.relmove_checks.specs.declared.refused.Barrier.TheVariants.{Files, UnreadDirectories}
 use Rattle.relmove_checks.specs.declared.refusal.Refusal.{Refusal}
-use Rattle.relmove_checks.specs.declared.refusal.Refusal.TheVariants.{NoFreeName, OutOfMemory}
+use Rattle.relmove_checks.specs.declared.refusal.Refusal.TheVariants.{OutOfMemory}
 use Rattle.relmove_checks.specs.Moves.{EachMove, HasFinePaths}
 use Rattle.relmove_checks.specs.Trees.{IsOldFine, IsFree, IsBelowNo, AreAfter, AreDistinct, is_file, is_unread}
 use Rattle.relmove_checks.specs.Refusals.{IsOfFirst, IsPathRefusal, IsOldRefusal, IsNewRefusal, IsTableRefusal, IsSameNewRefusal, IsCollisionRefusal, IsAboveRefusal}
@@ -63,7 +63,6 @@ pub data IsRefused (entries : List Entry) (moves : List Move) (rule : NameRule) 
   below_unread : StayApart entries moves rule → EachMove (λ move. IsBelowNo is_file moves entries move.new) moves
       → IsOfFirst (λ move. IsBelowNo is_unread moves entries move.new) (IsAboveRefusal UnreadDirectories moves entries) moves
       refusal → IsRefused entries moves rule refusal
-  names : AreAllowed entries moves rule → refusal ≡ NoFreeName → IsRefused entries moves rule refusal
   memory : refusal ≡ OutOfMemory → IsRefused entries moves rule refusal
 
 -- why the moves are refused that may leave

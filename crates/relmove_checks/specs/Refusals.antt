@@ -10,7 +10,7 @@ use Rattle.relmove_checks.specs.declared.name_rule.NameRule.TheVariants.{Plain}
 use Rattle.relmove_checks.specs.declared.refused.Barrier.{Barrier}
 use Rattle.relmove_checks.specs.declared.refused.Barrier.TheVariants.{Files, UnreadDirectories}
 use Rattle.relmove_checks.specs.declared.refusal.Refusal.{Refusal}
-use Rattle.relmove_checks.specs.declared.refusal.Refusal.TheVariants.{NoFileName, LeavesRoot, IntoItself, NotPlain, ReservedName, SameOld, NotThere, ForeignName, SameNew, Taken, Collision, BelowFile, BelowUnread, NoFreeName, OutOfMemory}
+use Rattle.relmove_checks.specs.declared.refusal.Refusal.TheVariants.{NoFileName, LeavesRoot, IntoItself, NotPlain, ReservedName, SameOld, NotThere, ForeignName, SameNew, Taken, Collision, BelowFile, BelowUnread, OutOfMemory}
 use Rattle.relmove_checks.specs.Moves as paths
 use Rattle.relmove_checks.specs.Moves.{EachMove, IsPlaced, LeadsIntoItself, StaysOutside, HasNames, HasReservedName}
 use Rattle.relmove_checks.specs.Trees.{IsNotThere, IsOldForeign, IsTaken, IsBelowSome, IsFirstCollision, is_barrier}
@@ -33,88 +33,31 @@ IsPathRefusal rule k move (NotPlain j) =
 IsPathRefusal rule k move (ReservedName j) =
     (j ≡ k) × IsPlaced move × StaysOutside move × HasNames rule move.new
     × (HasReservedName move.old ⊎ HasReservedName move.new)
-IsPathRefusal rule k move (SameOld i j) = ⊥
-IsPathRefusal rule k move (NotThere j) = ⊥
-IsPathRefusal rule k move (ForeignName j) = ⊥
-IsPathRefusal rule k move (SameNew i j) = ⊥
-IsPathRefusal rule k move (Taken j) = ⊥
-IsPathRefusal rule k move (Collision d e) = ⊥
-IsPathRefusal rule k move (BelowFile j) = ⊥
-IsPathRefusal rule k move (BelowUnread j) = ⊥
-IsPathRefusal rule k move NoFreeName = ⊥
-IsPathRefusal rule k move OutOfMemory = ⊥
+IsPathRefusal rule k move _ = ⊥
 
 -- why move number k is refused for what is at its old path
 abbrev pub IsOldRefusal : List Entry → ℕ → Move → Refusal → Type 0
-IsOldRefusal entries k move (NoFileName j) = ⊥
-IsOldRefusal entries k move (LeavesRoot j) = ⊥
-IsOldRefusal entries k move (IntoItself j) = ⊥
-IsOldRefusal entries k move (NotPlain j) = ⊥
-IsOldRefusal entries k move (ReservedName j) = ⊥
-IsOldRefusal entries k move (SameOld i j) = ⊥
 IsOldRefusal entries k move (NotThere j) = (j ≡ k) × IsNotThere entries move.old
 IsOldRefusal entries k move (ForeignName j) = (j ≡ k) × IsOldForeign entries move.old
-IsOldRefusal entries k move (SameNew i j) = ⊥
-IsOldRefusal entries k move (Taken j) = ⊥
-IsOldRefusal entries k move (Collision d e) = ⊥
-IsOldRefusal entries k move (BelowFile j) = ⊥
-IsOldRefusal entries k move (BelowUnread j) = ⊥
-IsOldRefusal entries k move NoFreeName = ⊥
-IsOldRefusal entries k move OutOfMemory = ⊥
+IsOldRefusal entries k move _ = ⊥
 
 -- why move number k is refused for what is at its new path
 abbrev pub IsNewRefusal : List Move → List Entry → ℕ → Move → Refusal → Type 0
-IsNewRefusal moves entries k move (NoFileName j) = ⊥
-IsNewRefusal moves entries k move (LeavesRoot j) = ⊥
-IsNewRefusal moves entries k move (IntoItself j) = ⊥
-IsNewRefusal moves entries k move (NotPlain j) = ⊥
-IsNewRefusal moves entries k move (ReservedName j) = ⊥
-IsNewRefusal moves entries k move (SameOld i j) = ⊥
-IsNewRefusal moves entries k move (NotThere j) = ⊥
-IsNewRefusal moves entries k move (ForeignName j) = ⊥
-IsNewRefusal moves entries k move (SameNew i j) = ⊥
 IsNewRefusal moves entries k move (Taken j) = (j ≡ k) × IsTaken moves entries move.new
-IsNewRefusal moves entries k move (Collision d e) = ⊥
-IsNewRefusal moves entries k move (BelowFile j) = ⊥
-IsNewRefusal moves entries k move (BelowUnread j) = ⊥
-IsNewRefusal moves entries k move NoFreeName = ⊥
 IsNewRefusal moves entries k move OutOfMemory = ⊤
+IsNewRefusal moves entries k move _ = ⊥
 
 -- why no table can be made of the moves
 abbrev pub IsTableRefusal : List Move → Refusal → Type 0
-IsTableRefusal moves (NoFileName j) = ⊥
-IsTableRefusal moves (LeavesRoot j) = ⊥
-IsTableRefusal moves (IntoItself j) = ⊥
-IsTableRefusal moves (NotPlain j) = ⊥
-IsTableRefusal moves (ReservedName j) = ⊥
 IsTableRefusal moves (SameOld i j) = IsFirstPair moves i j
-IsTableRefusal moves (NotThere j) = ⊥
-IsTableRefusal moves (ForeignName j) = ⊥
-IsTableRefusal moves (SameNew i j) = ⊥
-IsTableRefusal moves (Taken j) = ⊥
-IsTableRefusal moves (Collision d e) = ⊥
-IsTableRefusal moves (BelowFile j) = ⊥
-IsTableRefusal moves (BelowUnread j) = ⊥
-IsTableRefusal moves NoFreeName = ⊥
 IsTableRefusal moves OutOfMemory = ⊤
+IsTableRefusal moves _ = ⊥
 
 -- why no table can be made of moves that were turned
 abbrev pub IsSameNewRefusal : List Move → Refusal → Type 0
-IsSameNewRefusal moves (NoFileName j) = ⊥
-IsSameNewRefusal moves (LeavesRoot j) = ⊥
-IsSameNewRefusal moves (IntoItself j) = ⊥
-IsSameNewRefusal moves (NotPlain j) = ⊥
-IsSameNewRefusal moves (ReservedName j) = ⊥
-IsSameNewRefusal moves (SameOld i j) = ⊥
-IsSameNewRefusal moves (NotThere j) = ⊥
-IsSameNewRefusal moves (ForeignName j) = ⊥
 IsSameNewRefusal moves (SameNew i j) = IsFirstPair moves i j
-IsSameNewRefusal moves (Taken j) = ⊥
-IsSameNewRefusal moves (Collision d e) = ⊥
-IsSameNewRefusal moves (BelowFile j) = ⊥
-IsSameNewRefusal moves (BelowUnread j) = ⊥
-IsSameNewRefusal moves NoFreeName = ⊥
 IsSameNewRefusal moves OutOfMemory = ⊤
+IsSameNewRefusal moves _ = ⊥
 
 -- the two texts are the paths of the entries whose paths after the moves are the first to lead to the same place
 pub record AreOfCollision (entries : List Entry) (paths : List (List Step)) (one other : List ℕ) : Type 0 where
@@ -130,21 +73,9 @@ pub record AreOfCollision (entries : List Entry) (paths : List (List Step)) (one
 
 -- why the paths after the moves are refused
 abbrev pub IsCollisionRefusal : List Entry → List (List Step) → Refusal → Type 0
-IsCollisionRefusal entries paths (NoFileName j) = ⊥
-IsCollisionRefusal entries paths (LeavesRoot j) = ⊥
-IsCollisionRefusal entries paths (IntoItself j) = ⊥
-IsCollisionRefusal entries paths (NotPlain j) = ⊥
-IsCollisionRefusal entries paths (ReservedName j) = ⊥
-IsCollisionRefusal entries paths (SameOld i j) = ⊥
-IsCollisionRefusal entries paths (NotThere j) = ⊥
-IsCollisionRefusal entries paths (ForeignName j) = ⊥
-IsCollisionRefusal entries paths (SameNew i j) = ⊥
-IsCollisionRefusal entries paths (Taken j) = ⊥
 IsCollisionRefusal entries paths (Collision one other) = AreOfCollision entries paths one other
-IsCollisionRefusal entries paths (BelowFile j) = ⊥
-IsCollisionRefusal entries paths (BelowUnread j) = ⊥
-IsCollisionRefusal entries paths NoFreeName = ⊥
 IsCollisionRefusal entries paths OutOfMemory = ⊤
+IsCollisionRefusal entries paths _ = ⊥
 
 -- the refusal of move number k, if its new path is below such a barrier
 abbrev pub refusal_below : Barrier → ℕ → Refusal

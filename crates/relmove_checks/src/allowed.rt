@@ -73,7 +73,7 @@ pub fn coming_index(
 ) -> Result<PlaceIndex, Refusal>
     // it has to index the entries' paths
     requires { Indexes (entry_paths entries.now) index.now }
-    // moves that passed `leaving_table` pass each check but `NoFreeName`
+    // moves that passed `leaving_table` pass each check
     ensures fine { OnOk result ((rule : NameRule) → MayLeave entries.now table.now rule
         → AreAllowed entries.now table.now rule) }
     // the entries' paths after the moves, by number

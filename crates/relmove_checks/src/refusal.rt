@@ -42,8 +42,6 @@ pub enum Refusal {
     BelowFile(usize),
     /// The new path of this move is below what is, after the moves, a directory that isn't read.
     BelowUnread(usize),
-    /// No name is free for what moves, while it moves.
-    NoFreeName,
     /// An allocation failed.
     OutOfMemory,
 }
@@ -76,7 +74,6 @@ impl fmt::Display for Refusal {
                 f,
                 "move {k}: its new path is below a directory that isn't read"
             ),
-            Refusal::NoFreeName => f.write_str("no name is free"),
             Refusal::OutOfMemory => f.write_str("out of memory"),
         }
     }

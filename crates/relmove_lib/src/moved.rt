@@ -186,7 +186,7 @@ impl<'m> MadeMoves<'m> {
             table: &none,
             pages,
         };
-        actions_of(alloc, &site, now)
+        Ok(actions_of(alloc, &site, now)?)
     }
 }
 

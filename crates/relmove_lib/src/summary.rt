@@ -630,7 +630,7 @@ pub fn print_refused<W: Write, S: Store>(
         WhyRefused::Plan(Refusal::NotThere(number)) => {
             print_not_there(errors, store, tree, moves, (*number, Side::Old))
         }
-        WhyRefused::Plan(refusal) => print_refusal(errors, store.root(), moves, refusal),
+        WhyRefused::Plan(refusal) => print_refusal(errors, moves, refusal),
     }
 }
 
@@ -690,7 +690,6 @@ fn path_without_root(
 // Prints why the plan refuses moves.
 fn print_refusal<W: Write>(
     errors: &mut W,
-    root: &str,
     moves: &[(&str, &str)],
     refusal: &Refusal,
 ) -> io::Result<()> {
@@ -710,13 +709,6 @@ fn print_refusal<W: Write>(
             writeln!(
                 errors,
                 "relmove: {first} and {second} would get the same path"
-            )
-        }
-        Refusal::NoFreeName => {
-            let root = Printable(root);
-            writeln!(
-                errors,
-                "relmove: {root}: no name .relmove-1, .relmove-2 and so on is free"
             )
         }
         _ => writeln!(errors, "relmove: memory ran out"),

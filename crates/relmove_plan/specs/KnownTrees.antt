@@ -31,17 +31,18 @@ pub record IsUnreadAt (place : Place) (entry : Entry) : Type 0 where
   pub kind : is_unread entry.kind ≡ true
   pub leads : place_of (components entry.path) ≡ Some place
 
--- no new path of a move has the name, as none has a name that isn't UTF-8
+-- the name is in no new path of a move. A name that isn't UTF-8 is in none
 abbrev pub IsInNoNewPath : List Move → List ℕ → Type 0
 IsInNoNewPath moves n =
     (k : ℕ) → k < length moves → (place : Place) → place_of (move_at moves k).new ≡ Some place → ¬ Contains place n
 
--- no entry is at the name, which is in a directory that isn't read, or in one that is read, and in no new path
+-- no entry is at the name. It is in a directory that isn't read; or it is in another directory of the entries or in the
+-- root, and in no new path
 pub record IsUnread (entries : List Entry) (moves : List Move) (top : Place) (n : List ℕ) : Type 0 where
   pub none : (b : Bool) → ¬ Any (IsAt b (top ++ n ∷ [])) entries
   pub hidden : Any (IsUnreadAt top) entries ⊎ ((top ≡ []) ⊎ HasDirectoryAt entries top) × IsInNoNewPath moves n
 
--- the place is at or below what isn't read
+-- the place is at or below such a name
 pub record IsBelowUnread (entries : List Entry) (moves : List Move) (place : Place) : Type 0 where
   pub top : Place
   pub n : List ℕ
@@ -49,7 +50,8 @@ pub record IsBelowUnread (entries : List Entry) (moves : List Move) (place : Pla
   pub split : place ≡ (top ++ n ∷ []) ++ rest
   pub unread : IsUnread entries moves top n
 
--- The tree has the entries and the pages' texts, what else it has isn't read, and nothing has the names that the actions use.
+-- the tree has the entries and the pages' texts, what else it has is at or below names that the plan doesn't know, and
+-- nothing is at the names that the actions make
 pub record AgreesWith (entries : List Entry) (pages : List SitePage) (moves : List Move) (actions : ActionTexts) (tree : Tree)
     : Type 0 where
   pub whole : IsWholeTree tree

@@ -34,7 +34,7 @@ abbrev pub IsLinkedAt : List Move → List MovedSitePage → Place → Type 0
 IsLinkedAt moves news place = Any (λ new. Any (λ edit. (file : List ℕ) × (edit.file ≡ Some file)
     × AtTreePath moves (components file) (λ target. place_of target ≡ Some place)) new.edits.items) news
 
--- the moves take a directory above an old path, which isn't the root, to the place, and no link leads there
+-- at the place is, after the moves, a directory that was above an old path and isn't the root, and no link leads there
 pub record IsLeft (moves : List Move) (news : List MovedSitePage) (place : Place) : Type 0 where
   pub from : Place
   pub some : from ≢ []

@@ -56,7 +56,7 @@ pub fn make_plan<'a, F: Finder>(
     // each relative link still leads to its file, query and fragment kept, or is left; just pages with a text change
     ensures links { IfOk result (λ plan. KeepTheirLinks (F.finds finder.now) (moves_of moves.now)
         tree.entry.pages.now plan.pages.items) }
-    // the moves pass each check but `NoFreeName`
+    // the moves pass each check
     ensures accepted { OnOk result (AreAllowed tree.entry.entries.now (moves_of moves.now) rule) }
     // on a whole tree that agrees with entries and pages the actions can be done, and end in the tree after the moves
     ensures run { IfOk result (λ plan. IsWhole tree.entry.entries.now (page_paths tree.entry.pages.now)

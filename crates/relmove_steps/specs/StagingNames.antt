@@ -1,11 +1,9 @@
 -- The staging names, to which things are renamed before they come to their new paths, and the names of new files.
-use Rattle.std.specs.Prelude.{◌≡◌, ◌≢◌, ◌<◌, ◌≤◌, ℕ, ◌+◌, ◌^◌, List, ◌++◌, All, AllPairs, codes, decimal, ⊤}
+use Rattle.std.specs.Prelude.{◌≡◌, ◌≢◌, ◌<◌, ◌≤◌, ℕ, ◌+◌, ◌^◌, List, ◌++◌, All, AllPairs, codes, decimal}
 use Rattle.relative_path.specs.Steps.{Step, components}
 use Rattle.relative_path.specs.Normalizing.{IsNormalTextOf}
 use Rattle.relative_path_places.specs.PlaceIndex.{Indexes, IsNoneAt}
 use Rattle.relative_path_places.specs.declared.place_index.PlaceIndex.{PlaceIndex}
-use Rattle.relmove_checks.specs.declared.refusal.Refusal.{Refusal}
-use Rattle.relmove_checks.specs.declared.refusal.Refusal.TheVariants.{NoFileName, LeavesRoot, IntoItself, NotPlain, ReservedName, SameOld, NotThere, ForeignName, SameNew, Taken, Collision, BelowFile, BelowUnread, NoFreeName, OutOfMemory}
 use Rattle.relmove_steps.specs.declared.staging.FreeNames.{FreeNames}
 
 -- the name with this number
@@ -51,21 +49,3 @@ pub record IsDrawnIn (cs : List Step) (before after : FreeNames) (file : List �
   pub next : after.next ≡ number + 1
   pub file_of : IsNormalTextOf (cs ++ components (numbered_name number)) file
   pub unused : (paths : List (List Step)) → Indexes paths before.entries.now → IsNoneAt paths (components file)
-
--- no name is free, or an allocation failed
-abbrev pub IsActionsRefusal : Refusal → Type 0
-IsActionsRefusal (NoFileName j) = ⊥
-IsActionsRefusal (LeavesRoot j) = ⊥
-IsActionsRefusal (IntoItself j) = ⊥
-IsActionsRefusal (NotPlain j) = ⊥
-IsActionsRefusal (ReservedName j) = ⊥
-IsActionsRefusal (SameOld i j) = ⊥
-IsActionsRefusal (NotThere j) = ⊥
-IsActionsRefusal (ForeignName j) = ⊥
-IsActionsRefusal (SameNew i j) = ⊥
-IsActionsRefusal (Taken j) = ⊥
-IsActionsRefusal (Collision d e) = ⊥
-IsActionsRefusal (BelowFile j) = ⊥
-IsActionsRefusal (BelowUnread j) = ⊥
-IsActionsRefusal NoFreeName = ⊤
-IsActionsRefusal OutOfMemory = ⊤

@@ -1,5 +1,5 @@
 //! The actions of a run.
-ghost use Rattle.std.specs.Prelude.{◌≡◌, ◌≢◌, All, AllPairs, IfErr, IfOk, List, length, map, string_bytes};
+ghost use Rattle.std.specs.Prelude.{◌≡◌, ◌≢◌, All, AllPairs, IfOk, List, length, map, string_bytes};
 ghost use Rattle.relative_path.specs.Steps.{Step};
 ghost use Rattle.relative_path_moves.specs.Moves.{AreApart, AreNamed, turned, written_moves};
 ghost use Rattle.relative_path_places.specs.PlaceIndex.{Indexes};
@@ -9,7 +9,7 @@ ghost use Rattle.relmove_steps.specs.NewFiles.{AreFilesDrawn, HaveOwnFiles, Leav
 ghost use Rattle.relmove_steps.specs.Pages.{changed_paths};
 ghost use Rattle.relmove_steps.specs.Directories.{AreAllLeft, AreLeftByMoves, AreMade, LeaveToNames, MakesMissing, moves_to_names};
 ghost use Rattle.relmove_steps.specs.Actions.{AboveFirst, BelowFirst, DoesMove, LosesNothing, OnlyTheseLeave, RemovesAt, ReplacesPages, WritesPages, names_left, rename_texts, action_texts};
-ghost use Rattle.relmove_steps.specs.StagingNames.{AreDrawn, AreFreeNames, IsActionsRefusal};
+ghost use Rattle.relmove_steps.specs.StagingNames.{AreDrawn, AreFreeNames};
 
 use crate::changed::changed_index;
 use crate::directories::{directories_emptied, directories_to_make};
@@ -20,7 +20,6 @@ use relative_path_links::{MovedSitePage, SitePage};
 use relative_path_moves::{Move, MoveTableError, TreeMoves};
 use relative_path_places::PlaceIndex;
 use relmove_actions::Actions;
-use relmove_checks::Refusal;
 use std::alloc::{AllocError, Global};
 
 /// What is known of a tree after the moves.
@@ -36,14 +35,14 @@ pub struct After<'a, 'b> {
     pub pages: &'a [MovedSitePage],
 }
 
-/// Returns the actions that move the files and change the pages. Fails if no name is free, or an allocation fails.
+/// Returns the actions that move the files and change the pages. Fails only if an allocation fails.
 ///
 /// The pages are those before the moves. No two moves have the same new path.
 pub fn actions_of(
     alloc: Global,
     pages: &[SitePage<'_>],
     now: After<'_, '_>,
-) -> Result<Actions, Refusal>
+) -> Result<Actions, AllocError>
     // there has to be one new page for each page
     requires long { length now.pages.now ≡ length pages.now }
     // no two new paths may be equivalent
@@ -94,8 +93,6 @@ pub fn actions_of(
     // each directory missing above new paths, where staging names put it
     ensures made { IfOk result (λ actions. (paths : List (List Step)) → Indexes paths now.entry.after.now
         → MakesMissing now.entry.table.now paths (action_texts actions) (map string_bytes actions.made.items)) }
-    // it fails only with `NoFreeName` or `OutOfMemory`
-    ensures refused { IfErr result IsActionsRefusal }
 {
     let moves = now.table.moves();
     let mut names = FreeNames::new(now.index);
@@ -119,7 +116,7 @@ fn renames_of(
     moves: &[Move<'_>],
     staging: &[String],
     now: After<'_, '_>,
-) -> Result<Renames, Refusal>
+) -> Result<Renames, AllocError>
     requires long { length now.pages.now ≡ length pages.now }
     requires count { length staging.now ≡ length moves.now }
     requires moves { written_moves moves.now ≡ now.table.now }
@@ -145,7 +142,6 @@ fn renames_of(
         → AreDrawn index names.old (map string_bytes staging.now) → LeaveOnce (rename_texts renames)) }
     ensures named { IfOk result (λ renames. LeaveToNames (written_moves moves.now) (map string_bytes staging.now)
         (rename_texts renames)) }
-    ensures refused { IfErr result IsActionsRefusal }
 {
     let mut renames = Renames::new(alloc);
     let rewritten = changed_index(alloc, pages, now.pages)?;

@@ -1,6 +1,6 @@
 //! The renames of a run: everything that moves, and each page that changes, to a staging name, and from there to
 //! its new path.
-ghost use Rattle.std.specs.Prelude.{◌≡◌, ◌<◌, ℕ, ◌++◌, [], ◌∷◌, All, IfErr, IfOk, List, OnOk, length, map, string_bytes, take};
+ghost use Rattle.std.specs.Prelude.{◌≡◌, ◌<◌, ℕ, ◌++◌, [], ◌∷◌, All, IfOk, List, OnOk, length, map, string_bytes, take};
 ghost use Rattle.relative_path.specs.Steps.{Step, components};
 ghost use Rattle.relative_path.specs.RelativePath.{path_components};
 ghost use Rattle.relative_path.specs.Normalizing.{IsNormalTextOf};
@@ -10,7 +10,7 @@ ghost use Rattle.relative_path_places.specs.declared.place_index.PlaceIndex.{Pla
 ghost use Rattle.relmove_checks.specs.Moves.{EachMove, move_of};
 ghost use Rattle.relmove_steps.specs.Actions.{AreAmong, DoesMove, LosesNothing, RemovesAt, RemovesMoved, ReplacesPage, ReplacesPages, OnlyTheseLeave, WritesPage, WritesPages, names_left, old_paths, rename_texts, with_carried, with_removed, with_text};
 ghost use Rattle.relmove_steps.specs.Pages.{changed_paths};
-ghost use Rattle.relmove_steps.specs.StagingNames.{AreDrawn, IsActionsRefusal};
+ghost use Rattle.relmove_steps.specs.StagingNames.{AreDrawn};
 ghost use Rattle.relmove_steps.specs.NewFiles.{AreFilesDrawn, DoNothingYet, LeaveFromEntries, LeaveOnce, LeavesToo, StaysThere};
 ghost use Rattle.relmove_steps.specs.Directories.{LeavesTo, LeaveToNames, moves_to_names};
 
@@ -19,7 +19,6 @@ use relative_path::RelativePath;
 use relative_path_links::{MovedSitePage, SitePage};
 use relative_path_places::{NormalPath, PlaceIndex, WrittenPath};
 use relmove_actions::{NewText, Rename};
-use relmove_checks::Refusal;
 use std::alloc::{AllocError, Global};
 
 // Returns a staging name for each move.
@@ -27,11 +26,10 @@ pub(crate) fn staging_names(
     alloc: Global,
     names: &mut FreeNames<'_>,
     count: usize,
-) -> Result<Vec<String>, Refusal>
+) -> Result<Vec<String>, AllocError>
     ensures count { IfOk result (λ staging. length staging.items ≡ count) }
     ensures free { IfOk result (λ staging. (index : PlaceIndex) → AreDrawn index names.old []
         → AreDrawn index names.new (map string_bytes staging.items)) }
-    ensures refused { IfErr result IsActionsRefusal }
 {
     let mut staging = Vec::with_capacity(alloc, count)?;
     for _ in 0..count {
@@ -224,7 +222,7 @@ pub(crate) fn add_pages(
     pages: &[SitePage<'_>],
     news: &[MovedSitePage],
     olds: &PlaceIndex,
-) -> Result<(), Refusal>
+) -> Result<(), AllocError>
     requires kept { LosesNothing (rename_texts renames.old) }
     requires long { length news.now ≡ length pages.now }
     ensures kept { OnOk result (LosesNothing (rename_texts renames.new)) }
@@ -253,7 +251,6 @@ pub(crate) fn add_pages(
         → LeaveOnce (rename_texts renames.old) → LeaveOnce (rename_texts renames.new)) }
     ensures texts { OnOk result ((rename_texts renames.old).texts ≡ []
         → WritesPages (changed_paths pages.now news.now) (rename_texts renames.new)) }
-    ensures refused { IfErr result IsActionsRefusal }
 {
     for (page, new) in pages.iter().zip(news) {
         if let Some(text) = &new.text {
@@ -273,7 +270,7 @@ fn add_page(
     new: &MovedSitePage,
     text: &str,
     olds: &PlaceIndex,
-) -> Result<(), Refusal>
+) -> Result<(), AllocError>
     requires { LosesNothing (rename_texts renames.old) }
     ensures kept { OnOk result (LosesNothing (rename_texts renames.new)) }
     ensures among { OnOk result (AreAmong (rename_texts renames.old) (rename_texts renames.new)) }
@@ -302,7 +299,6 @@ fn add_page(
         → LeaveOnce (rename_texts renames.old) → LeaveOnce (rename_texts renames.new)) }
     ensures texts { OnOk result
         (WritesPage (components page.entry.path.now) (rename_texts renames.old) (rename_texts renames.new)) }
-    ensures refused { IfErr result IsActionsRefusal }
 {
     let old = page.path.copy(alloc)?;
     let file = names.in_directory(alloc, old.directory())?;
@@ -322,7 +318,7 @@ fn add_old_text(
     names: &mut FreeNames<'_>,
     page: NormalPath,
     olds: &PlaceIndex,
-) -> Result<(), Refusal>
+) -> Result<(), AllocError>
     requires { LosesNothing (rename_texts renames.old) }
     ensures kept { OnOk result (LosesNothing (rename_texts renames.new)) }
     ensures among { OnOk result (AreAmong (rename_texts renames.old) (rename_texts renames.new)) }
@@ -344,7 +340,6 @@ fn add_old_text(
         → (IsNoneAt (old_paths moves) cs → StaysThere cs (rename_texts renames.old))
         → LeaveOnce (rename_texts renames.old) → LeaveOnce (rename_texts renames.new)) }
     ensures texts { OnOk result ((rename_texts renames.new).texts ≡ (rename_texts renames.old).texts) }
-    ensures refused { IfErr result IsActionsRefusal }
 {
     if olds.get(&page).is_some() {
         return Ok(());

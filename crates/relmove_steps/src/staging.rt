@@ -1,13 +1,12 @@
 //! Names for what moves, while it moves.
-ghost use Rattle.std.specs.Prelude.{IfErr, IfOk, [], string_bytes};
+ghost use Rattle.std.specs.Prelude.{IfOk, [], string_bytes};
 ghost use Rattle.relative_path_places.specs.Views.{view_components};
-ghost use Rattle.relmove_steps.specs.StagingNames.{AreDrawn, IsDrawn, IsDrawnIn, IsActionsRefusal};
+ghost use Rattle.relmove_steps.specs.StagingNames.{AreDrawn, IsDrawn, IsDrawnIn};
 
 use relative_path::RelativePath;
 use relative_path_places::{NormalPath, NormalView, PlaceIndex};
 use relmove_actions::STAGING;
-use relmove_checks::Refusal;
-use std::alloc::Global;
+use std::alloc::{AllocError, Global};
 
 // Free names, each with a greater number than those before it.
 #[derive(Drop)]
@@ -27,9 +26,8 @@ impl<'a> FreeNames<'a> {
     }
 
     // Returns the next name that is free in the root.
-    pub(crate) fn in_root(&mut self, alloc: Global) -> Result<String, Refusal>
+    pub(crate) fn in_root(&mut self, alloc: Global) -> Result<String, AllocError>
         ensures drawn { IfOk result (λ name. IsDrawn self.old self.new (string_bytes name)) }
-        ensures refused { IfErr result IsActionsRefusal }
     {
         for number in self.next..u64::MAX {
             let name = format!(in alloc; "{STAGING}{number}")?;
@@ -39,7 +37,8 @@ impl<'a> FreeNames<'a> {
                 return Ok(name);
             }
         }
-        Err(Refusal::NoFreeName)
+        // Nearly all of the 2^64 names are taken, which are more than memory holds.
+        Err(AllocError)
     }
 
     // Returns the next name that is free in a directory, as a path.
@@ -47,10 +46,9 @@ impl<'a> FreeNames<'a> {
         &mut self,
         alloc: Global,
         directory: NormalView<'_>,
-    ) -> Result<String, Refusal>
+    ) -> Result<String, AllocError>
         ensures drawn { IfOk result (λ file.
             IsDrawnIn (view_components directory.entry) self.old self.new (string_bytes file)) }
-        ensures refused { IfErr result IsActionsRefusal }
     {
         for number in self.next..u64::MAX {
             let name = format!(in alloc; "{STAGING}{number}")?;
@@ -64,6 +62,7 @@ impl<'a> FreeNames<'a> {
                 return Ok(path.into_relative_path_buf().into_string());
             }
         }
-        Err(Refusal::NoFreeName)
+        // Nearly all of the 2^64 names are taken, which are more than memory holds.
+        Err(AllocError)
     }
 }
