@@ -13,7 +13,7 @@ use Rattle.relmove_checks.specs.Trees.{entry_paths}
 use Rattle.relmove_checks.specs.declared.entry.Entry.{Entry}
 use Rattle.relmove_checks.specs.declared.name_rule.NameRule.{NameRule}
 use Rattle.relmove_steps.specs.StagingNames.{AreFreeNames, numbered_name}
-use Rattle.relmove_plan.specs.FileTrees.{IsUnder, names_of}
+use Rattle.relmove_trees.specs.FileTrees.{IsUnder, names_of}
 use Rattle.relmove_plan.proofs.RunWords.{carried, rename_places, renames_of}
 use Rattle.relmove_steps.specs.Actions.{Carries, LeavesFrom, ActionTexts, names_come, names_left}
 use Rattle.relmove_plan.proofs.KnownRunsLemmas.{IsKnownRun}

@@ -12,7 +12,7 @@ use Rattle.relative_path_places.specs.PlaceIndex.{IsNoneAt, path_at}
 use Rattle.relative_path_moves.specs.TreeMoves.{AtTreePath, IsTreePath}
 use Rattle.relmove_checks.specs.declared.entry.Entry.{Entry}
 use Rattle.relmove_checks.specs.declared.name_rule.NameRule.{NameRule}
-use Rattle.relmove_plan.specs.FileTrees.{names_of}
+use Rattle.relmove_trees.specs.FileTrees.{names_of}
 use Rattle.relmove_steps.specs.Actions.{ActionTexts, Carries, LeavesFrom, of_move, of_page, of_text, names_come}
 use Rattle.relmove_plan.specs.WholeTrees.{IsAt}
 use Rattle.relmove_plan.proofs.CarriedLemmas.{HasNoName}

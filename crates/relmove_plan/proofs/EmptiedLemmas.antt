@@ -25,14 +25,14 @@ use Rattle.relmove_plan.proofs.NewTextsLemmas.{IsTreeOf}
 use Rattle.relmove_plan.proofs.PlacesLemmas.{IsBelow-joined, names_of-normal, spelled-place}
 use Rattle.relmove_plan.proofs.SourcesLemmas.{IsThere-place, first_of}
 use Rattle.relmove_plan.proofs.TreeRemovesLemmas.{AreDirectories, Contains-among, DeepestFirst, IsAmong}
-use Rattle.relmove_plan.proofs.TreeRenamesLemmas.{some_is}
 use Rattle.relmove_plan.proofs.WholeTreesLemmas.{HasDirectoryAt-above, IsSame-one_place, map_none, some_append, some_of}
-use Rattle.relmove_plan.specs.FileTrees.{Directory, IsUnder, Place, Tree, names_of}
+use Rattle.relmove_trees.specs.FileTrees.{Directory, IsUnder, Place, Tree, names_of}
 use Rattle.relmove_plan.specs.MovedTrees.{AreTakenTo, IsAboveOld, IsLeft}
 use Rattle.relmove_plan.proofs.RunWords.{CanBeMade, CanCome, MakesDirectories, NothingInTheWay}
 use Rattle.relmove_plan.specs.WholeTrees.{HasDirectoryAt, IsAt}
 use Rattle.relmove_steps.specs.Actions.{ActionTexts, BelowFirst}
 use Rattle.relmove_steps.specs.Directories.{AreAllLeft, IsLeftByMove, IsLinked}
+use Rattle.relmove_trees.proofs.FileTreesLemmas.{some_is}
 
 -- the text spells its names, and has one
 pub record IsSpelled (text : List ℕ) : Type 0 where

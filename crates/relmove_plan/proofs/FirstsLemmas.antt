@@ -5,9 +5,9 @@ use Rattle.relative_path.specs.Steps.{Step, name}
 use Rattle.relative_path.specs.Walk.{IsSame, place_of}
 use Rattle.relative_path.proofs.ForCallers.{walk-names}
 use Rattle.relative_path_places.specs.PlaceIndex.{IsNoneAt, path_at}
-use Rattle.relmove_plan.specs.FileTrees.{IsUnder}
-use Rattle.relmove_plan.proofs.RunsLemmas.{place_or, under_or}
+use Rattle.relmove_trees.specs.FileTrees.{IsUnder}
 use Rattle.relmove_plan.proofs.WholeTreesLemmas.{some_of}
+use Rattle.relmove_trees.proofs.FileTreesLemmas.{place_or, under_or}
 
 -- of the renames, this one is the first from the place or from above it
 pub record FirstUnder (actions : List (List (List ℕ) × List (List ℕ))) (place : List (List ℕ)) : Type 0 where

@@ -1,9 +1,9 @@
 -- Theorems that a caller's proof may cite: on the tree after the moves.
 use Rattle.std.proofs.Common.{◌≡◌, List, Option, Some, None, IsSome, inl, inr, refl, sym, ◌∙◌}
 use Rattle.relative_path_moves.specs.Moves.{Move}
-use Rattle.relmove_plan.specs.FileTrees.{Node, Place, Tree}
+use Rattle.relmove_trees.specs.FileTrees.{Node, Place, Tree}
 use Rattle.relmove_plan.specs.MovedTrees.{IsMoved}
-use Rattle.relmove_plan.proofs.TreeRenamesLemmas.{some_is}
+use Rattle.relmove_trees.proofs.FileTreesLemmas.{some_is}
 
 -- what one of them has, the other has
 has_too : (moves : List Move) (now one other : Tree) → IsMoved moves now one → IsMoved moves now other → (place : Place)

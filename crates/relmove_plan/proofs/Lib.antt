@@ -15,7 +15,6 @@ pub mod MadeLemmas
 pub mod EndsLemmas
 pub mod OpenLemmas
 pub mod PlannedLemmas
-pub mod LeadToLemmas
 pub mod TreeRenamesLemmas
 pub mod TreeAddsLemmas
 pub mod TreeRemovesLemmas

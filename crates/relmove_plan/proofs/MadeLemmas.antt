@@ -17,7 +17,7 @@ use Rattle.relmove_checks.specs.declared.name_rule.NameRule.{NameRule}
 use Rattle.relmove_checks.specs.Moves.{move_of}
 use Rattle.relmove_checks.specs.Trees.{HasAt, is_file}
 use Rattle.relmove_steps.specs.Directories.{AreMade, IsMissingText, IsTextTakenTo, LeavesTo, LeaveToNames, moves_to_names}
-use Rattle.relmove_plan.specs.FileTrees.{names_of}
+use Rattle.relmove_trees.specs.FileTrees.{names_of}
 use Rattle.relmove_plan.proofs.RunWords.{carried, IsMadeFor, DirectoriesArrive}
 use Rattle.relmove_steps.specs.Actions.{ActionTexts, names_left}
 use Rattle.relmove_plan.proofs.CarriedLemmas.{HasNoName, coming, is_reserved_text}

@@ -29,20 +29,21 @@ use Rattle.relmove_plan.proofs.NewTextsLemmas as texts
 use Rattle.relmove_plan.proofs.NewTextsLemmas.{IsTreeOf, text_or}
 use Rattle.relmove_plan.proofs.PlacesLemmas.{names_of-normal}
 use Rattle.relmove_plan.proofs.PlannedLemmas.{AreAfter-only}
-use Rattle.relmove_plan.proofs.RunsLemmas.{carried-elsewhere, place_or}
+use Rattle.relmove_plan.proofs.RunsLemmas.{carried-elsewhere}
 use Rattle.relmove_plan.proofs.SourcesLemmas.{IsThere-place, IsUnder-first, element, first_of}
-use Rattle.relmove_plan.proofs.TreeAddsLemmas.{adds-only, with_node-at, with_node-elsewhere}
+use Rattle.relmove_plan.proofs.TreeAddsLemmas.{adds-only}
 use Rattle.relmove_plan.proofs.TreeRemovesLemmas.{AreFiles, IsAmong, after_removes, removes-none}
-use Rattle.relmove_plan.proofs.TreeRenamesLemmas.{carried-one, carried-root, some_is, some_none}
+use Rattle.relmove_plan.proofs.TreeRenamesLemmas.{carried-one, carried-root}
 use Rattle.relmove_plan.proofs.TreeStagesLemmas as stages
 use Rattle.relmove_plan.proofs.WaysLemmas as leaves
 use Rattle.relmove_plan.proofs.WholeTreesLemmas.{IsAt-some, IsSame-one_place, not_empty, some_of}
-use Rattle.relmove_plan.specs.FileTrees.{Directory, File, Place, Tree, names_of, with_node}
+use Rattle.relmove_trees.specs.FileTrees.{Directory, File, Place, Tree, names_of, with_node}
 use Rattle.relmove_plan.specs.MovedTrees.{AreTakenTo, IsAboveNew, IsMoved}
 use Rattle.relmove_plan.proofs.RunWords.{CanBeMade, CanCome, DirectoriesArrive, IsMadeFor, MakesDirectories, NothingInTheWay, carried, renames_of}
 use Rattle.relmove_plan.specs.WholeTrees.{IsAt}
 use Rattle.relmove_steps.specs.Actions.{ActionTexts, Carries, LeavesFrom, names_come, names_left, of_move, of_page, of_text}
 use Rattle.relmove_steps.specs.Directories.{IsMissing, IsMissingText}
+use Rattle.relmove_trees.proofs.FileTreesLemmas.{place_or, some_is, some_none, with_node-at, with_node-elsewhere}
 
 -- ---- lists
 

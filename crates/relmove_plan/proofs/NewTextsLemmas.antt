@@ -12,17 +12,16 @@ use Rattle.relmove_checks.specs.Trees.{entry_paths}
 use Rattle.relmove_checks.specs.declared.entry.Entry.{Entry}
 use Rattle.relmove_checks.specs.declared.name_rule.NameRule.{NameRule}
 use Rattle.relmove_plan.proofs.KnownRunsLemmas.{IsKnownRun}
-use Rattle.relmove_plan.proofs.RunsLemmas.{place_or}
 use Rattle.relmove_plan.proofs.SourcesLemmas.{IsFrom, IsSource, IsSource-leaves, IsThere-place, element}
 use Rattle.relmove_plan.proofs.TreeAddsLemmas.{AreAddReady, CanAddAll, CanAddAll-ready, IsAddReady, adds-only, adds-stays, adds-there, after_adds, after_adds-whole}
-use Rattle.relmove_plan.proofs.TreeRenamesLemmas.{some_is}
 use Rattle.relmove_plan.proofs.TreeStagesLemmas.{HasThings, StaysAside}
 use Rattle.relmove_plan.proofs.WholeTreesLemmas.{HasDirectoryAt-above, IsNoneAt-entry, not_empty, some_of}
-use Rattle.relmove_plan.specs.FileTrees.{Directory, File, IsWholeTree, Node, Place, Tree, names_of}
+use Rattle.relmove_trees.specs.FileTrees.{Directory, File, IsWholeTree, Node, Place, Tree, names_of}
 use Rattle.relmove_plan.specs.MovedTrees.{AreTakenTo}
 use Rattle.relmove_plan.proofs.RunWords.{carried, renames_of}
 use Rattle.relmove_plan.specs.WholeTrees.{HasDirectoryAt, IsAt}
 use Rattle.relmove_steps.specs.Actions.{ActionTexts, names_left, of_text}
+use Rattle.relmove_trees.proofs.FileTreesLemmas.{place_or, some_is}
 
 -- a new text as a node
 abbrev pub text_at : List ℕ × List ℕ × List ℕ → Place × Node

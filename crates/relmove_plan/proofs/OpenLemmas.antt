@@ -19,7 +19,7 @@ use Rattle.relmove_checks.specs.Moves.{move_of}
 use Rattle.relmove_checks.proofs.ForCallers.{AllZip-at}
 use Rattle.relmove_steps.specs.Directories.{IsMissing, IsMissingText, MakesMissing, moves_to_names}
 use Rattle.relmove_steps.specs.Directories as specs
-use Rattle.relmove_plan.specs.FileTrees.{IsUnder, names_of}
+use Rattle.relmove_trees.specs.FileTrees.{IsUnder, names_of}
 use Rattle.relmove_plan.proofs.RunWords.{rename_places, carried, renames_of, CanBeMade, CanCome, HasMadeDirectory, HasOldDirectory, IsOpen, IsThereAfter}
 use Rattle.relmove_steps.specs.Actions.{ActionTexts}
 use Rattle.relmove_plan.specs.WholeTrees.{HasDirectoryAt, IsAt, LeadsToFile}
@@ -39,7 +39,8 @@ use Rattle.relmove_plan.proofs.EndsLemmas as ends
 use Rattle.relmove_plan.proofs.PlacesLemmas.{IsBelow-joined, names_of-normal}
 use Rattle.relmove_plan.proofs.RunsLemmas.{carried-append, carried-elsewhere, carried-still}
 use Rattle.relmove_plan.proofs.SourcesLemmas.{IsThere-place, element, first_of}
-use Rattle.relmove_plan.proofs.WholeTreesLemmas.{HasDirectoryAt-above, IsAt-some, IsSame-one_place, last_view, not_empty, push_front, push_last, some_append, some_of}
+use Rattle.relmove_plan.proofs.WholeTreesLemmas.{HasDirectoryAt-above, IsAt-some, IsSame-one_place, not_empty, push_last, some_append, some_of}
+use Rattle.relmove_trees.proofs.FileTreesLemmas.{last_view, push_front}
 
 pub take-none : {X : Type 0} (xs : List X) → take 0 xs ≡ []
 take-none [] = refl

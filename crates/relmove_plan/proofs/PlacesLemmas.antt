@@ -5,7 +5,7 @@ use Rattle.relative_path.specs.Steps.{Step, name, step_text, components, slash, 
 use Rattle.relative_path.specs.Walk.{place_of}
 use Rattle.relative_path.specs.Normalizing.{IsNormalTextOf}
 use Rattle.relative_path.proofs.ForCallers.{components-place}
-use Rattle.relmove_plan.specs.FileTrees.{names_of}
+use Rattle.relmove_trees.specs.FileTrees.{names_of}
 use Rattle.relmove_steps.specs.Actions.{IsBelow}
 
 map-step_text-names : (place : List (List ℕ)) → map step_text (map name place) ≡ place

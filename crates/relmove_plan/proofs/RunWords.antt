@@ -9,7 +9,7 @@ use Rattle.relmove_checks.specs.declared.entry.Entry.{Entry}
 use Rattle.relmove_checks.specs.Trees.{AreAfter}
 use Rattle.relmove_steps.specs.Directories.{AreMissing}
 use Rattle.relmove_steps.specs.Actions.{ActionTexts}
-use Rattle.relmove_plan.specs.FileTrees.{names_of}
+use Rattle.relmove_trees.specs.FileTrees.{names_of}
 use Rattle.relmove_plan.specs.WholeTrees.{HasDirectoryAt, IsAt}
 
 -- a rename as a pair of places: from where, and to where

@@ -1,43 +1,13 @@
 -- Where renames carry a place: the first rename whose path is the place's or above it takes the place along.
-use Rattle.std.proofs.Common.{All, Bool, true, false, true≢false, ◌≡◌, ◌≢◌, ◌⊎◌, ℕ, zero, suc, ◌<◌, ◌≤◌, List, [], ◌∷◌, ◌++◌, length, drop, take, get_or, inl, inr, refl, sym, ap, subst, ◌∙◌, append-nil, arith}
+use Rattle.std.proofs.Common.{All, Bool, true, false, ◌≡◌, ◌⊎◌, ℕ, zero, suc, ◌<◌, ◌≤◌, List, [], ◌∷◌, ◌++◌, length, drop, take, get_or, inl, inr, refl, sym, ap, subst, ◌∙◌, arith}
 use Rattle.std.proofs.Math.Seq.{drop-append_seam, take-append_seam}
-use Rattle.std.proofs.lemmas.List.{get_or_default, length-append, take-append-drop, take-append-le}
+use Rattle.std.proofs.lemmas.List.{get_or_default, take-append-drop, take-append-le}
 use Rattle.std.proofs.lemmas.List.Elements.{All-tail}
-use Rattle.std.proofs.lemmas.Slice.Eq.{bytes_eq-Decides, starts_is}
 use Rattle.std.specs.List.{starts_with}
 use Rattle.std.specs.Str.{bytes_eq}
-use Rattle.relmove_plan.specs.FileTrees.{IsUnder}
+use Rattle.relmove_trees.specs.FileTrees.{IsUnder}
 use Rattle.relmove_plan.proofs.RunWords.{renamed, carried}
-
--- the test says whether a place is under another
-pub starts : (place top : List (List ℕ)) → (starts_with bytes_eq place top ≡ true → place ≡ top ++ drop (length top) place)
-    × ((rest : List (List ℕ)) → place ≡ top ++ rest → starts_with bytes_eq place top ≡ true)
-starts place top = starts_is bytes_eq-Decides place top (starts_with bytes_eq place top) refl
-
--- a place is under another, or it isn't
-pub under_or : (place top : List (List ℕ)) → IsUnder place top ⊎ (¬ IsUnder place top)
-under_or place top = by (starts_with bytes_eq place top) refl
-  where
-    by : (b : Bool) → starts_with bytes_eq place top ≡ b → IsUnder place top ⊎ (¬ IsUnder place top)
-    by true is = inl (drop (length top) place, (starts place top).0 is)
-    by false is = inr (λ under. true≢false (sym ((starts place top).1 under.0 under.1) ∙ is))
-
--- two places are one place, or they aren't
-pub place_or : (one other : List (List ℕ)) → (one ≡ other) ⊎ (one ≢ other)
-place_or one other = by (under_or one other) (under_or other one)
-  where
-    both : (below rest : List (List ℕ)) → one ≡ other ++ below → other ≡ one ++ rest → one ≡ other
-    both [] rest is is_2 = is ∙ append-nil other
-    both (n ∷ below) rest is is_2 =
-        let long = ap length is ∙ length-append other (n ∷ below) in
-        let long_2 = ap length is_2 ∙ length-append one rest in
-        absurd (omega (arith, long, long_2))
-
-    by : IsUnder one other ⊎ (¬ IsUnder one other) → IsUnder other one ⊎ (¬ IsUnder other one)
-        → (one ≡ other) ⊎ (one ≢ other)
-    by (inr none) back = inr (λ same. none ([], same ∙ sym (append-nil other)))
-    by (inl under) (inr none) = inr (λ same. none ([], sym same ∙ sym (append-nil one)))
-    by (inl (below, is)) (inl (rest, is_2)) = inl (both below rest is is_2)
+use Rattle.relmove_trees.proofs.FileTreesLemmas.{starts, under_or}
 
 -- ---- one rename
 

@@ -16,15 +16,15 @@ use Rattle.relmove_checks.specs.declared.name_rule.NameRule.{NameRule}
 use Rattle.relmove_steps.specs.Actions.{BelowFirst, ReplacesChanged, ReplacesPage, action_texts}
 use Rattle.relmove_steps.specs.Directories.{AreAllLeft, IsLeftByMove, MakesMissing}
 use Rattle.relmove_steps.specs.Pages.{changed_paths, page_paths}
-use Rattle.relmove_plan.specs.FileTrees.{File, Place, Tree, names_of}
+use Rattle.relmove_trees.specs.FileTrees.{File, Place, Tree, names_of}
 use Rattle.relmove_plan.specs.KnownTrees.{AgreesWith, HasTexts, IsAfterMoves, RunsOn, tree_actions}
 use Rattle.relmove_plan.proofs.RunWords.{MakesDirectories}
 use Rattle.relmove_plan.specs.MovedTrees.{IsLeft}
-use Rattle.relmove_plan.specs.TreeActions.{LeadTo}
+use Rattle.relmove_trees.specs.TreeActions.{LeadTo}
 use Rattle.relmove_plan.proofs.ComingLemmas.{one_by_key}
 use Rattle.relmove_plan.proofs.EmptiedLemmas.{among-left, deepest_first, left-among, left_there}
 use Rattle.relmove_plan.proofs.KnownRunsLemmas.{IsKnownRun}
-use Rattle.relmove_plan.proofs.LeadToLemmas.{LeadTo-weaker}
+use Rattle.relmove_trees.proofs.LeadToLemmas.{LeadTo-weaker}
 use Rattle.relmove_plan.proofs.LeavingLemmas.{All-changed_pages, All-changed_paths}
 use Rattle.relmove_plan.proofs.MovedTreesLemmas.{HasNewTexts}
 use Rattle.relmove_plan.proofs.NewTextsLemmas.{IsTreeOf}

@@ -15,11 +15,12 @@ use Rattle.relmove_checks.specs.Moves.{EachMove}
 use Rattle.relmove_checks.specs.Trees.{IsThere, IsOldFine, entry_paths, is_directory}
 use Rattle.relmove_steps.specs.StagingNames.{numbered_name}
 use Rattle.relmove_steps.specs.NewFiles.{HaveOwnFiles, IsNextTo}
-use Rattle.relmove_plan.specs.FileTrees.{IsUnder, names_of}
+use Rattle.relmove_trees.specs.FileTrees.{IsUnder, names_of}
 use Rattle.relmove_steps.specs.Actions.{ActionTexts, LeavesFrom, of_move, of_page, of_text, names_left}
 use Rattle.relmove_plan.specs.WholeTrees.{IsAt, IsHeld, LeadsToFile, IsWhole}
 use Rattle.relmove_plan.proofs.PlacesLemmas.{joined-names, names_of-normal, names_of-names, spelled-place}
-use Rattle.relmove_plan.proofs.WholeTreesLemmas.{IsAt-some, IsNoneAt-under, IsSame-one_place, LeadsToFile-under, last_view, not_empty, path_at-entry, some_of}
+use Rattle.relmove_plan.proofs.WholeTreesLemmas.{IsAt-some, IsNoneAt-under, IsSame-one_place, LeadsToFile-under, not_empty, path_at-entry, some_of}
+use Rattle.relmove_trees.proofs.FileTreesLemmas.{last_view}
 
 -- an element by its number
 pub element : {X : Type 0} (xs : List X) (k : ℕ) → k < length xs → (x : X) × (get_or xs k x ≡ x)

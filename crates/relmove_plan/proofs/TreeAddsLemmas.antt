@@ -1,37 +1,11 @@
 -- What new files and directories do to a tree: they are there, and nothing else is new.
-use Rattle.std.proofs.Common.{All, ◌≡◌, ◌≢◌, ◌⊎◌, ℕ, zero, suc, ◌<◌, List, [], ◌∷◌, ◌++◌, Option, Some, None, IsSome, length, drop, get_or, inl, inr, refl, sym, ap, ◌∙◌, append-nil, arith, if◌then◌else◌}
-use Rattle.std.specs.List.{starts_with}
-use Rattle.std.specs.Str.{bytes_eq}
-use Rattle.std.proofs.Math.Seq.{drop-append_seam}
+use Rattle.std.proofs.Common.{All, ◌≡◌, ◌≢◌, ◌⊎◌, ℕ, zero, suc, ◌<◌, List, [], ◌∷◌, ◌++◌, Some, None, IsSome, length, get_or, inl, inr, refl, sym, ap, ◌∙◌, append-nil, arith}
 use Rattle.std.proofs.lemmas.List.Elements.{All-tail}
-use Rattle.relmove_plan.specs.FileTrees.{CanTake, Directory, IsUnder, IsWholeTree, Node, Place, Tree, at_or_below, with_node}
-use Rattle.relmove_plan.proofs.RunsLemmas.{place_or, starts, under_or}
-use Rattle.relmove_plan.proofs.TreeRenamesLemmas.{HasNothing-none, not_starts, some_is, some_none}
-use Rattle.relmove_plan.proofs.WholeTreesLemmas.{push_front}
+use Rattle.relmove_trees.specs.FileTrees.{CanTake, Directory, IsWholeTree, Node, Place, Tree, with_node}
+use Rattle.relmove_plan.proofs.TreeRenamesLemmas.{HasNothing-none}
+use Rattle.relmove_trees.proofs.FileTreesLemmas.{some_is, some_none, with_node-at, with_node-elsewhere, with_node-whole}
 
 -- ---- directories that are made
-
-pub with_node-at : (place : Place) (new : Option Node) (tree : Tree) → with_node place new tree place ≡ new
-unfolding with_node
-with_node-at place new tree =
-    rw ((starts place place).1 [] (sym (append-nil place)))
-    (ap (at_or_below new (tree place)) (ap (drop (length place)) (sym (append-nil place)) ∙ drop-append_seam place []))
-
-pub with_node-elsewhere : (place : Place) (new : Option Node) (tree : Tree) (other : Place) → other ≢ place
-    → with_node place new tree other ≡ tree other
-unfolding with_node
-with_node-elsewhere place new tree other differ = by (under_or other place)
-  where
-    at : (rest : Place) → other ≡ place ++ rest → at_or_below new (tree other) rest ≡ tree other
-    at [] is = absurd (differ (is ∙ append-nil place))
-    at (n ∷ rest) is = refl
-
-    by : IsUnder other place ⊎ (¬ IsUnder other place)
-        → (if starts_with bytes_eq other place then at_or_below new (tree other) (drop (length place) other) else tree other) ≡ tree other
-    by (inl (rest, is)) =
-        rw ((starts other place).1 rest is)
-        (ap (at_or_below new (tree other)) (ap (drop (length place)) is ∙ drop-append_seam place rest) ∙ at rest is)
-    by (inr none) = rw (not_starts other place none) refl
 
 -- the tree after things are added, one after another
 abbrev pub after_adds : List (Place × Node) → Tree → Tree
@@ -70,33 +44,6 @@ adds-only [] tree other none = refl
 adds-only (new ∷ news) tree other none =
     adds-only news (with_node new.0 (Some new.1) tree) other (All-tail (λ (new : Place × Node). other ≢ new.0) new news none)
     ∙ with_node-elsewhere new.0 (Some new.1) tree other (none 0 new (omega arith))
-
-pub with_node-whole : (tree : Tree) → IsWholeTree tree → (place : Place) (node : Node) → CanTake tree place
-    → IsWholeTree (with_node place (Some node) tree)
-with_node-whole tree whole_tree place node can = record { root = root; above = above }
-  where
-    here : tree place ≡ None
-    here = ap tree (sym (append-nil place)) ∙ can.free []
-
-    keeps : (other : Place) → IsSome (tree other) → with_node place (Some node) tree other ≡ tree other
-    keeps other some = with_node-elsewhere place (Some node) tree other (λ same. some_none (tree other) some (ap tree same ∙ here))
-
-    root : with_node place (Some node) tree [] ≡ Some Directory
-    root = keeps [] (some_is _ _ (sym whole_tree.root) refl) ∙ whole_tree.root
-
-    above : (top : Place) (n : List ℕ) → IsSome (with_node place (Some node) tree (top ++ n ∷ []))
-        → with_node place (Some node) tree top ≡ Some Directory
-    above top n some = by (place_or (top ++ n ∷ []) place)
-      where
-        held : tree top ≡ Some Directory → with_node place (Some node) tree top ≡ Some Directory
-        held is = keeps top (some_is _ _ (sym is) refl) ∙ is
-
-        by : (top ++ n ∷ [] ≡ place) ⊎ (top ++ n ∷ [] ≢ place) → with_node place (Some node) tree top ≡ Some Directory
-        by (inl same) =
-            held (ap tree (push_front top can.top n can.last (same ∙ can.split)) ∙ can.held)
-        by (inr differ) =
-            held (whole_tree.above top n
-            (some_is _ _ (with_node-elsewhere place (Some node) tree (top ++ n ∷ []) differ) some))
 
 pub after_adds-whole : (news : List (Place × Node)) (tree : Tree) → IsWholeTree tree → CanAddAll news tree
     → IsWholeTree (after_adds news tree)

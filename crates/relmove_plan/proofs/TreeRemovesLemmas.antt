@@ -1,12 +1,10 @@
 -- What is left of a tree when files are removed, and directories if nothing is in them.
 use Rattle.std.proofs.Common.{Contains, ◌≡◌, ◌≢◌, ◌⊎◌, ℕ, zero, suc, ◌<◌, List, [], ◌∷◌, ◌++◌, Some, None, IsSome, length, map, inl, inr, refl, sym, ap, subst, ◌∙◌, append-nil, append_assoc, arith}
 use Rattle.std.proofs.lemmas.List.{length-append}
-use Rattle.relmove_plan.specs.FileTrees.{Directory, File, HasBelow, IsUnder, Place, Tree, with_node}
-use Rattle.relmove_plan.specs.TreeActions.{Acts, Clear, LeadTo, Remove}
+use Rattle.relmove_trees.specs.FileTrees.{Directory, File, HasBelow, IsUnder, Place, Tree, with_node}
+use Rattle.relmove_trees.specs.TreeActions.{Acts, Clear, LeadTo, Remove}
 use Rattle.relmove_plan.specs.MovedTrees.{IsCleared, IsEmptied}
-use Rattle.relmove_plan.proofs.RunsLemmas.{place_or}
-use Rattle.relmove_plan.proofs.TreeAddsLemmas.{with_node-at, with_node-elsewhere}
-use Rattle.relmove_plan.proofs.TreeRenamesLemmas.{some_is, some_none}
+use Rattle.relmove_trees.proofs.FileTreesLemmas.{place_or, some_is, some_none, with_node-at, with_node-elsewhere}
 
 -- ---- files that are removed
 

@@ -1,44 +1,13 @@
 -- What renames do to a tree: each thing is where they carry it, and there is nothing else.
-use Rattle.std.proofs.Common.{Bool, true, false, ◌≡◌, ◌≢◌, ◌⊎◌, ℕ, suc, ◌<◌, List, [], ◌∷◌, ◌++◌, Option, Some, None, IsSome, length, drop, take, get_or, inl, inr, refl, sym, ap, subst, ◌∙◌, append-nil, append_assoc, arith}
-use Rattle.std.specs.List.{starts_with}
-use Rattle.std.specs.Str.{bytes_eq}
+use Rattle.std.proofs.Common.{◌≡◌, ◌≢◌, ◌⊎◌, ℕ, suc, ◌<◌, List, [], ◌∷◌, ◌++◌, Option, Some, None, IsSome, length, drop, take, get_or, inl, inr, refl, sym, ap, ◌∙◌, append-nil, append_assoc, arith}
 use Rattle.std.proofs.Math.Seq.{drop-append_seam}
-use Rattle.relmove_plan.specs.FileTrees.{Directory, HasNothing, IsUnder, IsWholeTree, Node, Place, Tree, after_rename}
-use Rattle.relmove_plan.specs.TreeActions.{CanRename}
+use Rattle.relmove_trees.specs.FileTrees.{Directory, HasNothing, IsUnder, IsWholeTree, Node, Place, Tree, after_rename}
+use Rattle.relmove_trees.specs.TreeActions.{CanRename}
 use Rattle.relmove_plan.proofs.RunWords.{renamed, carried}
-use Rattle.relmove_plan.proofs.RunsLemmas.{starts, under_or, renamed-under, renamed-elsewhere}
-use Rattle.relmove_plan.proofs.WholeTreesLemmas.{last_view, push_front}
-
--- what is there isn't nothing
-pub some_none : {A : Type 0} (n : Option A) → IsSome n → n ≡ None → ⊥
-some_none {A = A} n some none = let h : IsSome {T = A} None = subst IsSome none some in cc h
-
-pub some_is : {A : Type 0} (a b : Option A) → a ≡ b → IsSome a → IsSome b
-some_is a b e some = subst IsSome e some
-
-pub not_starts : (place top : Place) → ¬ IsUnder place top → starts_with bytes_eq place top ≡ false
-not_starts place top none = by (starts_with bytes_eq place top) refl
-  where
-    by : (b : Bool) → starts_with bytes_eq place top ≡ b → starts_with bytes_eq place top ≡ false
-    by true is = absurd (none (drop (length top) place, (starts place top).0 is))
-    by false is = is
+use Rattle.relmove_plan.proofs.RunsLemmas.{renamed-under, renamed-elsewhere}
+use Rattle.relmove_trees.proofs.FileTreesLemmas.{after_rename-elsewhere, after_rename-from, after_rename-to, after_rename-whole, some_is, some_none, under_or}
 
 -- ---- one rename
-
-pub after_rename-to : (from to : Place) (tree : Tree) (rest : Place) → after_rename (from, to) tree (to ++ rest) ≡ tree (from ++ rest)
-unfolding after_rename
-after_rename-to from to tree rest =
-    rw ((starts (to ++ rest) to).1 rest refl) (ap (λ rest. tree (from ++ rest)) (drop-append_seam to rest))
-
-pub after_rename-from : (from to : Place) (tree : Tree) (place : Place) → ¬ IsUnder place to → IsUnder place from
-    → after_rename (from, to) tree place ≡ None
-unfolding after_rename
-after_rename-from from to tree place none (rest, is) = rw (not_starts place to none, (starts place from).1 rest is) refl
-
-pub after_rename-elsewhere : (from to : Place) (tree : Tree) (place : Place) → ¬ IsUnder place to → ¬ IsUnder place from
-    → after_rename (from, to) tree place ≡ tree place
-unfolding after_rename
-after_rename-elsewhere from to tree place none none_2 = rw (not_starts place to none, not_starts place from none_2) refl
 
 -- what is somewhere is where the rename takes it
 pub renamed-arrives : (from to : Place) (tree : Tree) (place : Place) → HasNothing tree to → IsSome (tree place)
@@ -143,71 +112,6 @@ HasNothing-none tree whole_tree place none rest = by rest place none
         next (Some node) is =
             absurd (some_none (tree place)
             (some_is _ _ (sym (whole_tree.above place n (some_is (Some node) (tree (place ++ n ∷ [])) (sym is) refl))) refl) none)
-
-pub after_rename-whole : (tree : Tree) → IsWholeTree tree → (rename : Place × Place) → CanRename tree rename
-    → IsWholeTree (after_rename rename tree)
-after_rename-whole tree whole_tree rename can = record { root = root; above = above }
-  where
-    split : rename.1 ≡ can.takes.top ++ can.takes.last ∷ []
-    split = can.takes.split
-
-    not_at_root : ¬ IsUnder [] rename.1
-    not_at_root (rest, is) = some_none (tree []) (some_is _ _ (sym whole_tree.root) refl) (ap tree is ∙ can.takes.free rest)
-
-    not_from_root : ¬ IsUnder [] rename.0
-    not_from_root (rest, is) = by rename.0 refl is
-      where
-        by : (from : Place) → rename.0 ≡ from → [] ≡ rename.0 ++ rest → ⊥
-        by [] none is = can.apart (rename.1, ap (λ from. from ++ rename.1) (sym none))
-        by (n ∷ from) some is = cc (is ∙ ap (λ from. from ++ rest) some)
-
-    root : after_rename rename tree [] ≡ Some Directory
-    root = after_rename-elsewhere rename.0 rename.1 tree [] not_at_root not_from_root ∙ whole_tree.root
-
-    above : (top : Place) (n : List ℕ) → IsSome (after_rename rename tree (top ++ n ∷ [])) → after_rename rename tree top ≡ Some Directory
-    above top n some =
-        by (under_or (top ++ n ∷ []) rename.1) (under_or (top ++ n ∷ []) rename.0) (under_or top rename.1)
-        (under_or top rename.0)
-      where
-        by : IsUnder (top ++ n ∷ []) rename.1 ⊎ (¬ IsUnder (top ++ n ∷ []) rename.1)
-            → IsUnder (top ++ n ∷ []) rename.0 ⊎ (¬ IsUnder (top ++ n ∷ []) rename.0)
-            → IsUnder top rename.1 ⊎ (¬ IsUnder top rename.1) → IsUnder top rename.0 ⊎ (¬ IsUnder top rename.0)
-            → after_rename rename tree top ≡ Some Directory
-        by one two (inl (rest, is)) four =
-            let below : top ++ n ∷ [] ≡ rename.1 ++ (rest ++ n ∷ []) =
-            ap (λ top. top ++ n ∷ []) is ∙ append_assoc rename.1 rest (n ∷ []) in
-            let there : IsSome (tree (rename.0 ++ (rest ++ n ∷ []))) =
-            some_is _ _ (ap (after_rename rename tree) below ∙ after_rename-to rename.0 rename.1 tree (rest ++ n ∷ [])) some in
-            ap (after_rename rename tree) is ∙ after_rename-to rename.0 rename.1 tree rest
-            ∙ whole_tree.above (rename.0 ++ rest) n (some_is _ _ (ap tree (sym (append_assoc rename.0 rest (n ∷ [])))) there)
-        by (inl (rest, is)) two (inr none) four = at (last_view rest)
-          where
-            at : (rest ≡ []) ⊎ ((front : Place) × (last : List ℕ) × (rest ≡ front ++ last ∷ []))
-                → after_rename rename tree top ≡ Some Directory
-            at (inl empty) =
-                let same : top ≡ can.takes.top =
-                push_front top can.takes.top n can.takes.last
-                (is ∙ ap (λ rest. rename.1 ++ rest) empty ∙ append-nil rename.1 ∙ split) in
-                after_rename-elsewhere rename.0 rename.1 tree top none
-                (λ (rest_2, is_2). can.apart (
-                  rest_2 ++ can.takes.last ∷ [],
-                  split ∙ ap (λ top. top ++ can.takes.last ∷ []) (sym same ∙ is_2) ∙ append_assoc rename.0 rest_2 (can.takes.last ∷ []),
-                ))
-                ∙ ap tree same ∙ can.takes.held
-            at (inr (front, last, more)) =
-                absurd (none (
-                  front,
-                  push_front top (rename.1 ++ front) n last
-                      (is ∙ ap (λ rest. rename.1 ++ rest) more ∙ sym (append_assoc rename.1 front (last ∷ []))),
-                ))
-        by (inr none_2) (inl under) (inr none) four =
-            absurd (some_none (after_rename rename tree (top ++ n ∷ [])) some
-            (after_rename-from rename.0 rename.1 tree (top ++ n ∷ []) none_2 under))
-        by (inr none_2) (inr elsewhere) (inr none) (inl (rest, is)) =
-            absurd (elsewhere (rest ++ n ∷ [], ap (λ top. top ++ n ∷ []) is ∙ append_assoc rename.0 rest (n ∷ [])))
-        by (inr none_2) (inr elsewhere) (inr none) (inr elsewhere_2) =
-            after_rename-elsewhere rename.0 rename.1 tree top none elsewhere_2
-            ∙ whole_tree.above top n (some_is _ _ (after_rename-elsewhere rename.0 rename.1 tree (top ++ n ∷ []) none_2 elsewhere) some)
 
 -- ---- when renames can be done, told by where they carry what is there
 

@@ -12,17 +12,18 @@ use Rattle.relmove_plan.proofs.CarriedLemmas.{coming, leaving}
 use Rattle.relmove_plan.proofs.ComingLemmas as destinations
 use Rattle.relmove_plan.proofs.KnownRunsLemmas.{IsKnownRun}
 use Rattle.relmove_plan.proofs.OpenLemmas.{take-none}
-use Rattle.relmove_plan.proofs.RunsLemmas.{carried-append, carried-elsewhere, place_or}
+use Rattle.relmove_plan.proofs.RunsLemmas.{carried-append, carried-elsewhere}
 use Rattle.relmove_plan.proofs.SourcesLemmas.{element}
 use Rattle.relmove_plan.proofs.TreeAddsLemmas.{AreAddReady, CanAddAll, CanAddAll-ready, IsAddReady, adds-only, adds-stays, adds-there, after_adds, after_adds-whole}
-use Rattle.relmove_plan.proofs.TreeRenamesLemmas.{AreReady, CanRenameAll, CanRenameAll-ready, IsReady, after_renames, after_renames-whole, carried-arrives, carried-only, carried-root, some_is}
+use Rattle.relmove_plan.proofs.TreeRenamesLemmas.{AreReady, CanRenameAll, CanRenameAll-ready, IsReady, after_renames, after_renames-whole, carried-arrives, carried-only, carried-root}
 use Rattle.relmove_plan.proofs.WaysLemmas as leaves
 use Rattle.relmove_plan.proofs.WaysLemmas.{IsThing, renames-coming, renames-leaving}
 use Rattle.relmove_plan.proofs.WholeTreesLemmas.{not_empty}
-use Rattle.relmove_plan.specs.FileTrees.{Directory, IsUnder, IsWholeTree, Node, Place, Tree, names_of}
+use Rattle.relmove_trees.specs.FileTrees.{Directory, IsUnder, IsWholeTree, Node, Place, Tree, names_of}
 use Rattle.relmove_plan.proofs.RunWords.{CanBeMade, CanCome, IsOpen, IsThereAfter, NothingInTheWay, carried, rename_places, renames_of}
 use Rattle.relmove_plan.specs.WholeTrees.{IsAt}
 use Rattle.relmove_steps.specs.Actions.{ActionTexts}
+use Rattle.relmove_trees.proofs.FileTreesLemmas.{place_or, some_is}
 
 pub front_none : (xs rest : Place) → [] ≡ xs ++ rest → xs ≡ []
 front_none [] rest is = refl

@@ -30,22 +30,23 @@ use Rattle.relmove_plan.proofs.KnownRunsLemmas.{IsKnownRun}
 use Rattle.relmove_plan.proofs.MadeLemmas as directories
 use Rattle.relmove_plan.proofs.NewTextsLemmas.{IsAside}
 use Rattle.relmove_plan.proofs.PlacesLemmas.{names_of-normal}
-use Rattle.relmove_plan.proofs.RunsLemmas.{IsUnder-shorter, carried-append, carried-elsewhere, place_or}
+use Rattle.relmove_plan.proofs.RunsLemmas.{IsUnder-shorter, carried-append, carried-elsewhere}
 use Rattle.relmove_plan.proofs.SourcesLemmas.{IsThere-place, element}
-use Rattle.relmove_plan.proofs.TreeRenamesLemmas.{HasNothing-none, some_is, some_none}
+use Rattle.relmove_plan.proofs.TreeRenamesLemmas.{HasNothing-none}
 use Rattle.relmove_plan.proofs.TreeStagesLemmas.{front_none}
 use Rattle.relmove_plan.proofs.WaysLemmas as leaves
 use Rattle.relmove_plan.proofs.WaysLemmas.{renames-coming, renames-leaving}
 use Rattle.relmove_plan.proofs.WholeTreesLemmas.{HasDirectoryAt-above, IsAt-one, IsAt-some, IsSame-one_place, LeadsToFile-under, not_empty, path_at-entry, map_none, some_append, some_of}
 use Rattle.relmove_checks.specs.declared.entry.Kind.{Kind}
 use Rattle.relmove_checks.specs.declared.entry.Kind.TheVariants.{Directory, File, Symlink}
-use Rattle.relmove_plan.specs.FileTrees.{IsUnder, IsWholeTree, Node, Place, Tree, names_of}
+use Rattle.relmove_trees.specs.FileTrees.{IsUnder, IsWholeTree, Node, Place, Tree, names_of}
 use Rattle.relmove_plan.specs.KnownTrees.{IsBelowUnread, IsUnread, IsUnreadAt}
 use Rattle.relmove_plan.specs.MovedTrees.{AreTakenTo}
 use Rattle.relmove_plan.proofs.RunWords.{IsMadeFor, MakesDirectories, carried, rename_places, renames_of}
 use Rattle.relmove_plan.specs.WholeTrees.{HasDirectoryAt, IsAt, LeadsToFile}
 use Rattle.relmove_steps.specs.Actions.{ActionTexts, CarriesMove, LeavesFrom, names_left, of_move, of_page, of_text}
 use Rattle.relmove_steps.specs.Directories.{IsMissingText}
+use Rattle.relmove_trees.proofs.FileTreesLemmas.{place_or, some_is, some_none}
 
 -- an unread directory is a directory
 directory_of : (entries : List Entry) (place : Place) → Any (IsUnreadAt place) entries → HasDirectoryAt entries place

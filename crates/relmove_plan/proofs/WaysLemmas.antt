@@ -10,7 +10,7 @@ use Rattle.relative_path_moves.specs.Moves.{Move, move_at}
 use Rattle.relative_path_places.specs.PlaceIndex.{path_at}
 use Rattle.relmove_checks.specs.declared.entry.Entry.{Entry}
 use Rattle.relmove_checks.specs.declared.name_rule.NameRule.{NameRule}
-use Rattle.relmove_plan.specs.FileTrees.{IsUnder, names_of}
+use Rattle.relmove_trees.specs.FileTrees.{IsUnder, names_of}
 use Rattle.relmove_plan.proofs.RunWords.{rename_places, carried, renames_of, IsThereAfter}
 use Rattle.relmove_steps.specs.Actions.{ActionTexts, LeavesFrom, of_move, of_page, of_text, names_come, names_left}
 use Rattle.relmove_plan.specs.WholeTrees.{IsAt}

@@ -8,7 +8,7 @@ use Rattle.relmove_checks.specs.declared.entry.Entry.{Entry}
 use Rattle.relmove_checks.specs.declared.name_rule.NameRule.{NameRule}
 use Rattle.relmove_plan.proofs.CarriedLemmas as carrying
 use Rattle.relmove_plan.proofs.KnownRunsLemmas.{IsKnownRun}
-use Rattle.relmove_plan.proofs.LeadToLemmas.{LeadTo-append}
+use Rattle.relmove_trees.proofs.LeadToLemmas.{LeadTo-append}
 use Rattle.relmove_plan.proofs.MovedTreesLemmas as trees
 use Rattle.relmove_plan.proofs.MovedTreesLemmas.{HasNewTexts, IsAmong-map}
 use Rattle.relmove_plan.proofs.NewTextsLemmas as texts
@@ -18,11 +18,11 @@ use Rattle.relmove_plan.proofs.TreeRemovesLemmas.{AreDifferent, AreDirectories, 
 use Rattle.relmove_plan.proofs.TreeRenamesLemmas.{CanRenameAll, after_renames}
 use Rattle.relmove_plan.proofs.TreeStagesLemmas as stages
 use Rattle.relmove_plan.proofs.TreeStagesLemmas.{made_at}
-use Rattle.relmove_plan.specs.FileTrees.{Tree, names_of}
+use Rattle.relmove_trees.specs.FileTrees.{Tree, names_of}
 use Rattle.relmove_plan.specs.KnownTrees.{tree_actions}
 use Rattle.relmove_plan.specs.MovedTrees.{IsCleared, IsMoved}
 use Rattle.relmove_plan.proofs.RunWords.{CanBeMade, CanCome, MakesDirectories, NothingInTheWay, rename_places}
-use Rattle.relmove_plan.specs.TreeActions.{Action, Clear, LeadTo, Make, Remove, Rename, Write}
+use Rattle.relmove_trees.specs.TreeActions.{Action, Clear, LeadTo, Make, Remove, Rename, Write}
 use Rattle.relmove_steps.specs.Actions.{ActionTexts, names_come}
 
 lead_writes : (news : List (List ℕ × List ℕ × List ℕ)) (P : Tree → Type 0) (tree : Tree) → CanAddAll (map text_at news) tree

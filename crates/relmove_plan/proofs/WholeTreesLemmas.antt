@@ -9,29 +9,11 @@ use Rattle.relative_path.proofs.ForCallers.{IsSame-place, IsSame-sym, IsSame-tra
 use Rattle.relative_path_places.specs.PlaceIndex.{IsNoneAt, path_at}
 use Rattle.relmove_checks.specs.declared.entry.Entry.{Entry}
 use Rattle.relmove_checks.specs.Trees.{entry_paths, is_directory}
-use Rattle.relmove_plan.specs.FileTrees.{IsUnder}
+use Rattle.relmove_trees.specs.FileTrees.{IsUnder}
 use Rattle.relmove_plan.specs.WholeTrees.{IsAt, HasDirectoryAt, IsHeld, LeadsToFile, IsWhole}
+use Rattle.relmove_trees.proofs.FileTreesLemmas.{last_view, push_front}
 
 -- ---- lists of names from their end
-
--- a list is empty, or has a last element
-pub last_view : {X : Type 0} (xs : List X) → (xs ≡ []) ⊎ ((front : List X) × (last : X) × (xs ≡ front ++ last ∷ []))
-last_view [] = inl refl
-last_view (x ∷ xs) = elim (last_view xs) [
-  | inl none ↦ inr ([], x, ap (λ rest. x ∷ rest) none)
-  | inr (front, last, is) ↦ inr (x ∷ front, last, ap (λ rest. x ∷ rest) is)
-]
-
-pub push_front : {X : Type 0} (xs ys : List X) (x y : X) → xs ++ x ∷ [] ≡ ys ++ y ∷ [] → xs ≡ ys
-push_front [] [] x y same = refl
-push_front [] (z ∷ ys) x y same =
-    absurd (let count = ap length same in let long = length-append ys (y ∷ []) in omega (arith, count, long))
-push_front (z ∷ xs) [] x y same =
-    absurd (let count = ap length same in let long = length-append xs (x ∷ []) in omega (arith, count, long))
-push_front (z ∷ xs) (w ∷ ys) x y same =
-    let first : z ≡ w = ap (λ zs. get_or zs 0 z) same in
-    let rest = push_front xs ys x y (ap (λ zs. drop 1 zs) same) in
-    ap (λ v. v ∷ xs) first ∙ ap (λ vs. w ∷ vs) rest
 
 pub push_last : {X : Type 0} (xs ys : List X) (x y : X) → xs ++ x ∷ [] ≡ ys ++ y ∷ [] → x ≡ y
 push_last [] [] x y same = ap (λ zs. get_or zs 0 x) same

@@ -11,9 +11,9 @@ use Rattle.relmove_checks.specs.declared.entry.Entry.{Entry}
 use Rattle.relmove_checks.specs.Trees.{is_unread}
 use Rattle.relmove_steps.specs.Actions.{ActionTexts, names_left}
 use Rattle.relmove_steps.specs.Pages.{changed_paths}
-use Rattle.relmove_plan.specs.FileTrees.{Directory, File, IsWholeTree, Place, Tree, names_of}
+use Rattle.relmove_trees.specs.FileTrees.{Directory, File, IsWholeTree, Place, Tree, names_of}
 use Rattle.relmove_plan.specs.MovedTrees.{IsCleared, IsLeft, IsMoved}
-use Rattle.relmove_plan.specs.TreeActions.{Action, Clear, LeadTo, Make, Remove, Rename, Write}
+use Rattle.relmove_trees.specs.TreeActions.{Action, Clear, LeadTo, Make, Remove, Rename, Write}
 use Rattle.relmove_plan.specs.WholeTrees.{HasDirectoryAt, IsAt}
 
 -- the actions of a plan, in order

@@ -1,5 +1,3 @@
 pub mod WholeTrees
-pub mod FileTrees
-pub mod TreeActions
 pub mod MovedTrees
 pub mod KnownTrees

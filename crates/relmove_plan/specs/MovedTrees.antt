@@ -6,7 +6,7 @@ use Rattle.relative_path.specs.Walk.{place_of}
 use Rattle.relative_path_links.specs.declared.site.MovedSitePage.{MovedSitePage}
 use Rattle.relative_path_moves.specs.Moves.{Move, move_at}
 use Rattle.relative_path_moves.specs.TreeMoves.{AtTreePath}
-use Rattle.relmove_plan.specs.FileTrees.{Directory, Place, Tree}
+use Rattle.relmove_trees.specs.FileTrees.{Directory, Place, Tree}
 
 -- the nearest move takes what is at the one place to the other; what no move takes stays
 abbrev pub AreTakenTo : List Move → Place → Place → Type 0

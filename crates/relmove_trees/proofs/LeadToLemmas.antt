@@ -1,7 +1,7 @@
 -- Several runs of actions, one after another.
 use Rattle.std.proofs.Common.{List, [], ◌∷◌, ◌++◌}
-use Rattle.relmove_plan.specs.FileTrees.{Tree}
-use Rattle.relmove_plan.specs.TreeActions.{Action, LeadTo}
+use Rattle.relmove_trees.specs.FileTrees.{Tree}
+use Rattle.relmove_trees.specs.TreeActions.{Action, LeadTo}
 
 pub LeadTo-append : (actions more : List Action) (P : Tree → Type 0) (tree : Tree) → LeadTo actions (LeadTo more P) tree
     → LeadTo (actions ++ more) P tree

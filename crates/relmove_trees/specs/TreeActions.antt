@@ -1,6 +1,6 @@
 -- What an action does to a tree, and what a run of actions leads to.
 use Rattle.std.specs.Prelude.{◌≡◌, ◌⊎◌, ℕ, List, [], ◌∷◌, Some, None, IsSome}
-use Rattle.relmove_plan.specs.FileTrees.{CanTake, Directory, File, HasBelow, IsUnder, Place, Tree, after_rename, with_node}
+use Rattle.relmove_trees.specs.FileTrees.{CanTake, Directory, File, HasBelow, IsUnder, Place, Tree, after_rename, with_node}
 
 -- a new file, a rename, a new directory, a file removed, a directory removed if nothing is in it
 pub data Action : Type 0 where

@@ -1,0 +1,301 @@
+-- What a run requires makes each of its stages one that tells how far it is.
+use Rattle.std.proofs.Common.{◌≡◌, ◌⊎◌, inl, inr, ◌<◌, ℕ, List, map, Some, None, sym, ◌∙◌, ap, subst, arith}
+use Rattle.std.specs.List.{slice_get}
+use Rattle.std.proofs.Common.{String, length}
+use Rattle.std.proofs.lemmas.List.{take_all}
+use Rattle.std.specs.declared.alloc.Global.{Global}
+use Rattle.relmove_actions.specs.declared.actions.Rename.{Rename}
+use Rattle.relmove_journal.specs.declared.work.Leftover.{Leftover}
+use Rattle.relmove_journal.specs.declared.work.Leftover.TheVariants.{Text, Directory}
+use Rattle.relmove_journal.specs.declared.work.Stage.{Stage}
+use Rattle.relmove_journal.specs.declared.work.Stage.TheVariants.{Writing, Staging, Making, Placing, Cleaning, Unplacing, Unmaking, Unstaging, Erasing}
+use Rattle.relmove_journal.specs.declared.work.TextFile.{TextFile}
+use Rattle.relmove_journal.specs.declared.work.Work.{Work}
+use Rattle.relmove_stages.specs.Runs.{AreAllApart, CanBegin, CanEnd, DeepestFirst, EndsFrom, HasOldTexts, IsAllDone, IsAtStage, Leads, Trees, left_place, tree_at}
+use Rattle.relmove_stages.specs.StageActions.{IsAfter, IsDone, IsReady, LeadsTo, StageAction, Clears, place_of, tree_action}
+use Rattle.relmove_stages.specs.Stages.{back, cleans, makes, next_stage, removes, removes_part, stage_actions, stage_back, takes, undone}
+use Rattle.relmove_stages.proofs.ActionLemmas.{Clears-stays, IsBackable, IsUndone, Loses, Makes-stays, Takes-stays, done-becomes, none-stays}
+use Rattle.relmove_stages.proofs.BackLemmas.{AreBackable, IsAfter-there, back-end, on_stage-back, stage-back, whole-after}
+use Rattle.relmove_stages.proofs.ChainLemmas.{IsStage, LeadsTo-end, LeadsTo-ready, holds_on, map_at}
+use Rattle.relmove_trees.specs.FileTrees.{IsUnder, IsWholeTree, Tree}
+use Rattle.relmove_trees.specs.TreeActions.{Acts}
+
+-- ---- stages that go on
+
+-- actions that lead somewhere are a stage if each stays done
+stage_of : (actions : List StageAction) (P : Tree → Type 0) (start : Tree) → LeadsTo actions P start
+    → ((i j : ℕ) (one other : StageAction) (old new : Tree) → i < j → slice_get actions i ≡ Some one
+    → slice_get actions j ≡ Some other → IsDone one old → IsReady other old → Acts (tree_action other) old new → IsDone one new)
+    → IsStage actions start
+stage_of actions P start leads stays = record {
+  ready = LeadsTo-ready actions P start leads;
+  done = λ i k action tree at less within is. holds_on actions start IsDone
+      (λ i action old new at is acts. done-becomes action old new (LeadsTo-ready actions P start leads i action old at is) acts)
+      (λ i j action other old new less at at_2 is acts done.
+      stays i j action other old new less at at_2 done (LeadsTo-ready actions P start leads j other old at_2 is) acts)
+      k i action tree at less within is;
+}
+
+renames-stage : (renames : List Rename) (P : Tree → Type 0) (start : Tree) → AreAllApart renames → LeadsTo (map takes renames) P start
+    → IsStage (map takes renames) start
+renames-stage renames P start apart leads = stage_of (map takes renames) P start leads
+    (λ i j one other old new less at at_2 done ready acts.
+    let (r, r_at, r_is) = map_at takes renames i one at in
+    let (s, s_at, s_is) = map_at takes renames j other at_2 in
+    subst (λ (a : StageAction). IsDone a new) r_is
+    (Takes-stays (place_of r.from) (place_of r.to) (place_of s.from) (place_of s.to) old new (apart i j r s r_at s_at)
+    (apart j i s r s_at r_at) (subst (λ (a : StageAction). IsDone a old) (sym r_is) done)
+    (subst (λ (a : StageAction). IsReady a old) (sym s_is) ready)
+    (subst (λ (a : StageAction). Acts (tree_action a) old new) (sym s_is) acts)))
+
+makes-stage : (paths : List (String Global)) (P : Tree → Type 0) (start : Tree) → LeadsTo (map makes paths) P start
+    → IsStage (map makes paths) start
+makes-stage paths P start leads = stage_of (map makes paths) P start leads
+    (λ i j one other old new less at at_2 done ready acts.
+    let (r, r_at, r_is) = map_at makes paths i one at in
+    let (s, s_at, s_is) = map_at makes paths j other at_2 in
+    subst (λ (a : StageAction). IsDone a new) r_is
+    (Makes-stays (place_of r) (place_of s) old new (subst (λ (a : StageAction). IsDone a old) (sym r_is) done)
+    (subst (λ (a : StageAction). IsReady a old) (sym s_is) ready)
+    (subst (λ (a : StageAction). Acts (tree_action a) old new) (sym s_is) acts)))
+
+-- what cleans removes something at its place, or nothing
+cleans-loses : (leftover : Leftover) (old new : Tree) → Acts (tree_action (cleans leftover)) old new → Loses (left_place leftover) old new
+cleans-loses (Text text) old new acts = inl acts
+cleans-loses (Directory path) old new (inl (none, is)) = inl is
+cleans-loses (Directory path) old new (inr (below, is)) = inr is
+
+cleans-stay : (one other : Leftover) (old new : Tree) → ¬ IsUnder (left_place other) (left_place one) → IsDone (cleans one) old
+    → Acts (tree_action (cleans other)) old new → IsDone (cleans one) new
+cleans-stay (Text text) other old new not done acts =
+    none-stays (place_of text.path) (left_place other) old new (cleans-loses other old new acts) done
+cleans-stay (Directory path) other old new not done acts =
+    Clears-stays (place_of path) (left_place other) old new (cleans-loses other old new acts) not done
+
+cleaning-stage : (leftovers : List Leftover) (P : Tree → Type 0) (start : Tree) → DeepestFirst leftovers
+    → LeadsTo (map cleans leftovers) P start → IsStage (map cleans leftovers) start
+cleaning-stage leftovers P start deepest leads = stage_of (map cleans leftovers) P start leads
+    (λ i j one other old new less at at_2 done ready acts.
+    let (r, r_at, r_is) = map_at cleans leftovers i one at in
+    let (s, s_at, s_is) = map_at cleans leftovers j other at_2 in
+    subst (λ (a : StageAction). IsDone a new) r_is
+    (cleans-stay r s old new (deepest i j r s less r_at s_at) (subst (λ (a : StageAction). IsDone a old) (sym r_is) done)
+    (subst (λ (a : StageAction). Acts (tree_action a) old new) (sym s_is) acts)))
+
+removes-stage : (texts : List TextFile) (P : Tree → Type 0) (start : Tree) → LeadsTo (map removes texts) P start
+    → IsStage (map removes texts) start
+removes-stage texts P start leads = stage_of (map removes texts) P start leads
+    (λ i j one other old new less at at_2 done ready acts.
+    let (r, r_at, r_is) = map_at removes texts i one at in
+    let (s, s_at, s_is) = map_at removes texts j other at_2 in
+    subst (λ (a : StageAction). IsDone a new) r_is
+    (none-stays (place_of r.path) (place_of s.path) old new
+    (inl (subst (λ (a : StageAction). Acts (tree_action a) old new) (sym s_is) acts))
+    (subst (λ (a : StageAction). IsDone a old) (sym r_is) done)))
+
+parts-stage : (texts : List TextFile) (P : Tree → Type 0) (start : Tree) → LeadsTo (map removes_part texts) P start
+    → IsStage (map removes_part texts) start
+parts-stage texts P start leads = stage_of (map removes_part texts) P start leads
+    (λ i j one other old new less at at_2 done ready acts.
+    let (r, r_at, r_is) = map_at removes_part texts i one at in
+    let (s, s_at, s_is) = map_at removes_part texts j other at_2 in
+    subst (λ (a : StageAction). IsDone a new) r_is
+    (none-stays (place_of r.path) (place_of s.path) old new
+    (inl (subst (λ (a : StageAction). Acts (tree_action a) old new) (sym s_is) acts))
+    (subst (λ (a : StageAction). IsDone a old) (sym r_is) done)))
+
+-- ---- stages that go back
+
+renames-backable : (renames : List Rename) → AreBackable (map takes renames)
+renames-backable renames i action at =
+    let (r, r_at, r_is) = map_at takes renames i action at in subst IsBackable r_is tt
+
+makes-backable : (paths : List (String Global)) → AreBackable (map makes paths)
+makes-backable paths i action at =
+    let (r, r_at, r_is) = map_at makes paths i action at in subst IsBackable r_is tt
+
+renames-back : (renames : List Rename) (start end : Tree) → AreAllApart renames → IsWholeTree start
+    → LeadsTo (map takes renames) (λ tree. tree ≡ end) start → IsStage (undone (map takes renames)) end
+renames-back renames start end apart whole leads =
+    stage-back (map takes renames) start end (renames-backable renames) whole leads
+    (λ i j one other old new at at_2 done ready acts.
+    let (r, r_at, r_is) = map_at takes renames i one at in
+    let (s, s_at, s_is) = map_at takes renames j other at_2 in
+    let apart_2 = apart i j r s r_at s_at in
+    let apart_3 = apart j i s r s_at r_at in
+    subst (λ (a : StageAction). IsUndone (back a) new) r_is
+    (Takes-stays (place_of r.to) (place_of r.from) (place_of s.to) (place_of s.from) old new (apart_3.1, apart_3.0)
+    (apart_2.1, apart_2.0) (subst (λ (a : StageAction). IsUndone (back a) old) (sym r_is) done)
+    (subst (λ (a : StageAction). IsReady (back a) old) (sym s_is) ready)
+    (subst (λ (a : StageAction). Acts (tree_action (back a)) old new) (sym s_is) acts)))
+
+makes-back : (paths : List (String Global)) (start end : Tree) → IsWholeTree start
+    → LeadsTo (map makes paths) (λ tree. tree ≡ end) start → IsStage (undone (map makes paths)) end
+makes-back paths start end whole leads =
+    stage-back (map makes paths) start end (makes-backable paths) whole leads
+    (λ i j one other old new at at_2 done ready acts.
+    let (r, r_at, r_is) = map_at makes paths i one at in
+    let (s, s_at, s_is) = map_at makes paths j other at_2 in
+    subst (λ (a : StageAction). IsUndone (back a) new) r_is
+    (none-stays (place_of r) (place_of s) old new
+    (clear-loses s old new (subst (λ (a : StageAction). Acts (tree_action (back a)) old new) (sym s_is) acts))
+    (subst (λ (a : StageAction). IsUndone (back a) old) (sym r_is) done)))
+  where
+    clear-loses : (path : String Global) (old new : Tree) → Acts (tree_action (Clears (place_of path))) old new
+        → Loses (place_of path) old new
+    clear-loses path old new (inl (none, is)) = inl is
+    clear-loses path old new (inr (below, is)) = inr is
+
+-- a tree after all of them is whole too
+whole-end : (actions : List StageAction) (start end : Tree) → AreBackable actions → IsWholeTree start
+    → LeadsTo actions (λ tree. tree ≡ end) start → IsWholeTree end
+whole-end actions start end backable whole leads =
+    let (tree, is) = IsAfter-there actions start backable in
+    subst IsWholeTree (LeadsTo-end actions (λ tree. tree ≡ end) start leads tree is)
+    (whole-after actions (λ tree. tree ≡ end) start backable whole leads (length actions) tree
+    (subst (λ (l : List StageAction). IsAfter l start tree) (sym (take_all (length actions) actions (omega arith))) is))
+
+-- ---- a run
+
+next_is : (one next : Stage) → Some one ≡ Some next → one ≡ next
+next_is one next some = cc some
+
+module _ (work : Work) (trees : Trees) where
+  -- a stage ends as the next one
+  pub ends-before : (stage next : Stage) (tree : Tree) → next_stage stage ≡ Some next → EndsFrom work trees next tree
+      → EndsFrom work trees stage tree
+  ends-before Writing next tree some ends = absurd (cc some)
+  ends-before Staging next tree some ends = subst (λ (s : Stage). EndsFrom work trees s tree) (sym (next_is Making next some)) ends
+  ends-before Making next tree some ends = subst (λ (s : Stage). EndsFrom work trees s tree) (sym (next_is Placing next some)) ends
+  ends-before Placing next tree some ends = subst (λ (s : Stage). EndsFrom work trees s tree) (sym (next_is Cleaning next some)) ends
+  ends-before Cleaning next tree some ends = absurd (cc some)
+  ends-before Unplacing next tree some ends = subst (λ (s : Stage). EndsFrom work trees s tree) (sym (next_is Unmaking next some)) ends
+  ends-before Unmaking next tree some ends = subst (λ (s : Stage). EndsFrom work trees s tree) (sym (next_is Unstaging next some)) ends
+  ends-before Unstaging next tree some ends = subst (λ (s : Stage). EndsFrom work trees s tree) (sym (next_is Erasing next some)) ends
+  ends-before Erasing next tree some ends = absurd (cc some)
+
+  -- a run that turns back ends in the tree before
+  pub ends-back : (stage next : Stage) (tree : Tree) → stage_back stage ≡ Some next → EndsFrom work trees next tree
+      → tree ≡ trees.before
+  ends-back Writing next tree some ends = subst (λ (s : Stage). EndsFrom work trees s tree) (sym (next_is Writing next some)) ends
+  ends-back Staging next tree some ends = subst (λ (s : Stage). EndsFrom work trees s tree) (sym (next_is Unstaging next some)) ends
+  ends-back Making next tree some ends = subst (λ (s : Stage). EndsFrom work trees s tree) (sym (next_is Unmaking next some)) ends
+  ends-back Placing next tree some ends = subst (λ (s : Stage). EndsFrom work trees s tree) (sym (next_is Unplacing next some)) ends
+  ends-back Cleaning next tree some ends = absurd (cc some)
+  ends-back Unplacing next tree some ends = subst (λ (s : Stage). EndsFrom work trees s tree) (sym (next_is Unplacing next some)) ends
+  ends-back Unmaking next tree some ends = subst (λ (s : Stage). EndsFrom work trees s tree) (sym (next_is Unmaking next some)) ends
+  ends-back Unstaging next tree some ends = subst (λ (s : Stage). EndsFrom work trees s tree) (sym (next_is Unstaging next some)) ends
+  ends-back Erasing next tree some ends = subst (λ (s : Stage). EndsFrom work trees s tree) (sym (next_is Erasing next some)) ends
+
+  -- the tree in which a run ends is one of two
+  pub ends-one_of : (stage : Stage) (tree : Tree) → EndsFrom work trees stage tree → (tree ≡ trees.before) ⊎ IsAllDone work trees tree
+  ends-one_of Writing tree ends = inl ends
+  ends-one_of Staging tree ends = inr ends
+  ends-one_of Making tree ends = inr ends
+  ends-one_of Placing tree ends = inr ends
+  ends-one_of Cleaning tree ends = inr ends
+  ends-one_of Unplacing tree ends = inl ends
+  ends-one_of Unmaking tree ends = inl ends
+  ends-one_of Unstaging tree ends = inl ends
+  ends-one_of Erasing tree ends = inl ends
+
+module _ (work : Work) (trees : Trees) (leads : Leads work trees) where
+  staged-whole : IsWholeTree trees.staged
+  staged-whole =
+      whole-end (map takes work.staged.items) trees.written trees.staged (renames-backable work.staged.items) leads.whole leads.stages
+
+  made-whole : IsWholeTree trees.made
+  made-whole =
+      whole-end (map makes work.made.items) trees.staged trees.made (makes-backable work.made.items) staged-whole leads.makes
+
+  -- each stage tells how far it is
+  pub stage-leads : (stage : Stage) → IsStage (stage_actions work stage) (tree_at trees stage)
+  stage-leads Writing = parts-stage work.texts.items (λ tree. tree ≡ trees.before) trees.torn leads.parts
+  stage-leads Staging = renames-stage work.staged.items (λ tree. tree ≡ trees.staged) trees.written leads.staged_apart leads.stages
+  stage-leads Making = makes-stage work.made.items (λ tree. tree ≡ trees.made) trees.staged leads.makes
+  stage-leads Placing = renames-stage work.placed.items (λ tree. tree ≡ trees.placed) trees.made leads.placed_apart leads.places
+  stage-leads Cleaning = cleaning-stage work.cleaned.items (λ tree. Unit {0}) trees.placed leads.deepest leads.cleans
+  stage-leads Unplacing = renames-back work.placed.items trees.made trees.placed leads.placed_apart made-whole leads.places
+  stage-leads Unmaking = makes-back work.made.items trees.staged trees.made staged-whole leads.makes
+  stage-leads Unstaging = renames-back work.staged.items trees.written trees.staged leads.staged_apart leads.whole leads.stages
+  stage-leads Erasing = removes-stage work.texts.items (λ tree. tree ≡ trees.before) trees.written leads.texts
+
+  -- a stage leads to where the next one begins
+  pub next-leads : (stage next : Stage) (tree : Tree) → next_stage stage ≡ Some next
+      → IsAfter (stage_actions work stage) (tree_at trees stage) tree → tree ≡ tree_at trees next
+  next-leads Writing next tree some is = absurd (cc some)
+  next-leads Staging next tree some is =
+      LeadsTo-end (map takes work.staged.items) (λ tree. tree ≡ trees.staged) trees.written leads.stages tree is ∙ ap (tree_at trees) (next_is Making next some)
+  next-leads Making next tree some is =
+      LeadsTo-end (map makes work.made.items) (λ tree. tree ≡ trees.made) trees.staged leads.makes tree is ∙ ap (tree_at trees) (next_is Placing next some)
+  next-leads Placing next tree some is =
+      LeadsTo-end (map takes work.placed.items) (λ tree. tree ≡ trees.placed) trees.made leads.places tree is ∙ ap (tree_at trees) (next_is Cleaning next some)
+  next-leads Cleaning next tree some is = absurd (cc some)
+  next-leads Unplacing next tree some is =
+      back-end (map takes work.placed.items) trees.made trees.placed (renames-backable work.placed.items) made-whole leads.places tree is
+      ∙ ap (tree_at trees) (next_is Unmaking next some)
+  next-leads Unmaking next tree some is =
+      back-end (map makes work.made.items) trees.staged trees.made (makes-backable work.made.items) staged-whole leads.makes tree is
+      ∙ ap (tree_at trees) (next_is Unstaging next some)
+  next-leads Unstaging next tree some is =
+      back-end (map takes work.staged.items) trees.written trees.staged (renames-backable work.staged.items) leads.whole leads.stages tree is
+      ∙ ap (tree_at trees) (next_is Erasing next some)
+  next-leads Erasing next tree some is = absurd (cc some)
+
+  -- the last stage on each way ends the run
+  pub end-leads : (stage : Stage) (tree : Tree) → next_stage stage ≡ None
+      → IsAfter (stage_actions work stage) (tree_at trees stage) tree → EndsFrom work trees stage tree
+  end-leads Writing tree none is = LeadsTo-end (map removes_part work.texts.items) (λ tree. tree ≡ trees.before) trees.torn leads.parts tree is
+  end-leads Staging tree none is = absurd (cc none)
+  end-leads Making tree none is = absurd (cc none)
+  end-leads Placing tree none is = absurd (cc none)
+  end-leads Cleaning tree none is = is
+  end-leads Unplacing tree none is = absurd (cc none)
+  end-leads Unmaking tree none is = absurd (cc none)
+  end-leads Unstaging tree none is = absurd (cc none)
+  end-leads Erasing tree none is = LeadsTo-end (map removes work.texts.items) (λ tree. tree ≡ trees.before) trees.written leads.texts tree is
+
+  -- a run may turn back in the middle of a stage
+  pub back-leads : (stage next : Stage) (tree : Tree) → stage_back stage ≡ Some next → IsAtStage work trees stage tree
+      → IsAtStage work trees next tree
+  back-leads Writing next tree some on = subst (λ (s : Stage). IsAtStage work trees s tree) (next_is Writing next some) on
+  back-leads Staging next tree some on =
+      subst (λ (s : Stage). IsAtStage work trees s tree) (next_is Unstaging next some)
+      (on_stage-back (map takes work.staged.items) trees.written trees.staged (renames-backable work.staged.items) leads.whole leads.stages tree on)
+  back-leads Making next tree some on =
+      subst (λ (s : Stage). IsAtStage work trees s tree) (next_is Unmaking next some)
+      (on_stage-back (map makes work.made.items) trees.staged trees.made (makes-backable work.made.items) staged-whole leads.makes tree on)
+  back-leads Placing next tree some on =
+      subst (λ (s : Stage). IsAtStage work trees s tree) (next_is Unplacing next some)
+      (on_stage-back (map takes work.placed.items) trees.made trees.placed (renames-backable work.placed.items) made-whole leads.places tree on)
+  back-leads Cleaning next tree some on = absurd (cc some)
+  back-leads Unplacing next tree some on = subst (λ (s : Stage). IsAtStage work trees s tree) (next_is Unplacing next some) on
+  back-leads Unmaking next tree some on = subst (λ (s : Stage). IsAtStage work trees s tree) (next_is Unmaking next some) on
+  back-leads Unstaging next tree some on = subst (λ (s : Stage). IsAtStage work trees s tree) (next_is Unstaging next some) on
+  back-leads Erasing next tree some on = subst (λ (s : Stage). IsAtStage work trees s tree) (next_is Erasing next some) on
+
+  -- what is compared is as it was read and written
+  pub begin-leads : (stage : Stage) (tree : Tree) → IsAtStage work trees stage tree → CanBegin work stage tree
+  begin-leads Writing tree on = tt
+  begin-leads Staging tree on = tt
+  begin-leads Making tree on = tt
+  begin-leads Placing tree on = leads.new_texts tree on
+  begin-leads Cleaning tree on = tt
+  begin-leads Unplacing tree on = tt
+  begin-leads Unmaking tree on = tt
+  begin-leads Unstaging tree on = tt
+  begin-leads Erasing tree on = tt
+
+  pub complete-leads : (stage : Stage) (tree : Tree) → IsAfter (stage_actions work stage) (tree_at trees stage) tree
+      → CanEnd work stage tree
+  complete-leads Writing tree is = tt
+  complete-leads Staging tree is =
+      subst (HasOldTexts work) (sym (LeadsTo-end (map takes work.staged.items) (λ tree. tree ≡ trees.staged) trees.written leads.stages tree is))
+      leads.old_texts
+  complete-leads Making tree is = tt
+  complete-leads Placing tree is = tt
+  complete-leads Cleaning tree is = tt
+  complete-leads Unplacing tree is = tt
+  complete-leads Unmaking tree is = tt
+  complete-leads Unstaging tree is = tt
+  complete-leads Erasing tree is = tt

@@ -1,0 +1,6 @@
+pub mod ActionLemmas
+pub mod ChainLemmas
+pub mod BackLemmas
+pub mod LeadsLemmas
+pub mod StateLemmas
+pub mod MachineLemmas

@@ -1,0 +1,4 @@
+pub mod StageActions
+pub mod Stages
+pub mod States
+pub mod Runs

@@ -1,0 +1,148 @@
+-- The trees of a run, what a run requires of its actions, and what a crash leaves of it.
+use Rattle.std.specs.Prelude.{◌≡◌, ◌⊎◌, ◌<◌, ◌≤◌, ℕ, List, Option, Some, None, length, slice_get, take}
+use Rattle.relmove_actions.specs.declared.actions.Rename.{Rename}
+use Rattle.relmove_journal.specs.declared.work.Leftover.{Leftover}
+use Rattle.relmove_journal.specs.declared.work.Leftover.TheVariants.{Text, Directory}
+use Rattle.relmove_journal.specs.declared.work.Stage.{Stage}
+use Rattle.relmove_journal.specs.declared.work.Stage.TheVariants.{Writing, Staging, Making, Placing, Cleaning, Unplacing, Unmaking, Unstaging, Erasing}
+use Rattle.relmove_journal.specs.declared.work.TextFile.{TextFile}
+use Rattle.relmove_journal.specs.declared.work.Work.{Work}
+use Rattle.relmove_stages.specs.StageActions.{HasText, IsAfter, LeadsTo, StageAction, place_of}
+use Rattle.relmove_stages.specs.Stages.{stage_actions}
+use Rattle.relmove_stages.specs.States.{Disk, Leaves, State}
+use Rattle.relmove_trees.specs.FileTrees.{IsUnder, IsWholeTree, Place, Tree}
+
+-- The trees between the stages: before the run, with new texts that may be parts, with whole new texts, when everything has
+-- its staging name, when the directories are made, and when everything is at its new path.
+pub record Trees : Type 0 where
+  pub before : Tree
+  pub torn : Tree
+  pub written : Tree
+  pub staged : Tree
+  pub made : Tree
+  pub placed : Tree
+
+-- the tree at which a stage begins
+abbrev pub tree_at : Trees → Stage → Tree
+tree_at trees Writing = trees.torn
+tree_at trees Staging = trees.written
+tree_at trees Making = trees.staged
+tree_at trees Placing = trees.made
+tree_at trees Cleaning = trees.placed
+tree_at trees Unplacing = trees.placed
+tree_at trees Unmaking = trees.made
+tree_at trees Unstaging = trees.staged
+tree_at trees Erasing = trees.written
+
+-- ---- where a run is
+
+-- the first actions are done, and no other
+pub record IsOnStage (actions : List StageAction) (start tree : Tree) : Type 0 where
+  pub done : ℕ
+  pub within : done ≤ length actions
+  pub is : IsAfter (take done actions) start tree
+
+-- the first actions of the stage are done, and no other
+abbrev pub IsAtStage : Work → Trees → Stage → Tree → Type 0
+IsAtStage work trees stage tree = IsOnStage (stage_actions work stage) (tree_at trees stage) tree
+
+-- all actions are done: everything is at its new path, and what is left over is removed
+abbrev pub IsAllDone : Work → Trees → Tree → Type 0
+IsAllDone work trees tree = IsAfter (stage_actions work Cleaning) trees.placed tree
+
+-- a run at the stage ends so: all actions are done if it goes on, and the tree is the one before if it goes back
+abbrev pub EndsFrom : Work → Trees → Stage → Tree → Type 0
+EndsFrom work trees Writing tree = tree ≡ trees.before
+EndsFrom work trees Staging tree = IsAllDone work trees tree
+EndsFrom work trees Making tree = IsAllDone work trees tree
+EndsFrom work trees Placing tree = IsAllDone work trees tree
+EndsFrom work trees Cleaning tree = IsAllDone work trees tree
+EndsFrom work trees Unplacing tree = tree ≡ trees.before
+EndsFrom work trees Unmaking tree = tree ≡ trees.before
+EndsFrom work trees Unstaging tree = tree ≡ trees.before
+EndsFrom work trees Erasing tree = tree ≡ trees.before
+
+-- the tree goes with what the journal says
+abbrev pub IsTreeOf : Work → Trees → Option Stage → Tree → Type 0
+IsTreeOf work trees None tree = (tree ≡ trees.before) ⊎ IsAllDone work trees tree
+IsTreeOf work trees (Some stage) tree = IsAtStage work trees stage tree
+
+-- what is left is on the way: the first actions of the journal's stage are done, and no other
+abbrev pub IsOnTheWay : Work → Trees → Disk → Type 0
+IsOnTheWay work trees disk = IsTreeOf work trees disk.journal disk.tree
+
+-- the calls between two states leave what is on the way
+pub record Guards (work : Work) (trees : Trees) (old new : State) : Type 0 where
+  pub way : IsOnTheWay work trees new.disk
+  pub leaves : Leaves (IsOnTheWay work trees) old new
+
+-- ---- what a run requires
+
+-- neither place is at or below the other
+abbrev pub AreApart : Place → Place → Type 0
+AreApart one other = (¬ IsUnder one other) × (¬ IsUnder other one)
+
+-- no old path of the renames is a new one, or above or below it
+abbrev pub AreAllApart : List Rename → Type 0
+AreAllApart renames = (i j : ℕ) (one other : Rename) → slice_get renames i ≡ Some one → slice_get renames j ≡ Some other
+    → AreApart (place_of one.from) (place_of other.to)
+
+-- where something is removed
+abbrev pub left_place : Leftover → Place
+left_place (Text text) = place_of text.path
+left_place (Directory path) = place_of path
+
+-- nothing is removed below a directory that came before
+abbrev pub DeepestFirst : List Leftover → Type 0
+DeepestFirst leftovers = (i j : ℕ) (one other : Leftover) → i < j → slice_get leftovers i ≡ Some one
+    → slice_get leftovers j ≡ Some other → ¬ IsUnder (left_place other) (left_place one)
+
+-- each old text is as it was read
+abbrev pub HasOldTexts : Work → Tree → Type 0
+HasOldTexts work tree = (i : ℕ) (text : TextFile) → slice_get work.cleaned.items i ≡ Some (Text text)
+    → HasText (place_of text.path) text.digest tree
+
+-- each new text is as it was written, if it is there
+abbrev pub HasNewTexts : Work → Tree → Type 0
+HasNewTexts work tree = (i : ℕ) (text : TextFile) → slice_get work.texts.items i ≡ Some text
+    → (tree (place_of text.path) ≡ None) ⊎ HasText (place_of text.path) text.digest tree
+
+-- a stage can begin: before things are placed, each new text is as it was written
+abbrev pub CanBegin : Work → Stage → Tree → Type 0
+CanBegin work Writing tree = Unit {0}
+CanBegin work Staging tree = Unit {0}
+CanBegin work Making tree = Unit {0}
+CanBegin work Placing tree = HasNewTexts work tree
+CanBegin work Cleaning tree = Unit {0}
+CanBegin work Unplacing tree = Unit {0}
+CanBegin work Unmaking tree = Unit {0}
+CanBegin work Unstaging tree = Unit {0}
+CanBegin work Erasing tree = Unit {0}
+
+-- a stage can end: after everything got its staging name, each old text is as it was read
+abbrev pub CanEnd : Work → Stage → Tree → Type 0
+CanEnd work Writing tree = Unit {0}
+CanEnd work Staging tree = HasOldTexts work tree
+CanEnd work Making tree = Unit {0}
+CanEnd work Placing tree = Unit {0}
+CanEnd work Cleaning tree = Unit {0}
+CanEnd work Unplacing tree = Unit {0}
+CanEnd work Unmaking tree = Unit {0}
+CanEnd work Unstaging tree = Unit {0}
+CanEnd work Erasing tree = Unit {0}
+
+-- What a run requires of its actions: each can be done in order, and the stages lead from tree to tree; no rename of a stage
+-- leads to where one leaves from, or above or below it; and the texts have the digests that the journal says.
+pub record Leads (work : Work) (trees : Trees) : Type 0 where
+  pub whole : IsWholeTree trees.written
+  pub parts : LeadsTo (stage_actions work Writing) (λ tree. tree ≡ trees.before) trees.torn
+  pub texts : LeadsTo (stage_actions work Erasing) (λ tree. tree ≡ trees.before) trees.written
+  pub stages : LeadsTo (stage_actions work Staging) (λ tree. tree ≡ trees.staged) trees.written
+  pub makes : LeadsTo (stage_actions work Making) (λ tree. tree ≡ trees.made) trees.staged
+  pub places : LeadsTo (stage_actions work Placing) (λ tree. tree ≡ trees.placed) trees.made
+  pub cleans : LeadsTo (stage_actions work Cleaning) (λ tree. Unit {0}) trees.placed
+  pub staged_apart : AreAllApart work.staged.items
+  pub placed_apart : AreAllApart work.placed.items
+  pub deepest : DeepestFirst work.cleaned.items
+  pub old_texts : HasOldTexts work trees.staged
+  pub new_texts : (tree : Tree) → IsAtStage work trees Placing tree → HasNewTexts work tree

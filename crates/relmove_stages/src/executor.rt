@@ -1,0 +1,87 @@
+//! What does the actions of a run.
+ghost use Rattle.std.specs.Prelude.{◌≡◌, ◌⊎◌, ◌<◌, ℕ, Some, None, IsTrue, OnOk, OnErr};
+ghost use Rattle.relmove_stages.specs.Runs.{CanBegin, CanEnd};
+ghost use Rattle.relmove_stages.specs.StageActions.{Does, IsDone, IsReady, MayDo, action_of};
+ghost use Rattle.relmove_stages.specs.States.{Disk, IsOneCall, State};
+
+use crate::action::Action;
+use relmove_journal::{Stage, Work};
+
+/// What does the actions of a run, one at a time, and keeps its journal. A call that fails has done nothing, or all that it
+/// does.
+pub trait Executor {
+    /// Why a call fails.
+    type Fault: Drop;
+
+    /// What is known of the disk.
+    ghost state: { Self → State };
+
+    /// Asks for what a stage needs. Changes nothing of the tree.
+    fn prepare(&mut self, work: &Work, stage: Stage) -> Result<(), Self::Fault>
+        // the tree and the journal stay
+        ensures same { IsTrue (state self.new).is_clean → (state self.new).disk ≡ (state self.old).disk }
+        // what a crash leaves
+        ensures crash { IsOneCall (state self.old) (state self.new) }
+        // it fails only if a call failed, or if it can't be done
+        ensures cause { OnErr result (IsTrue (state self.new).is_clean → CanBegin work.now stage (state self.old).disk.tree
+            → (state self.old).faults < (state self.new).faults) };
+
+    /// Does an action, unless it is done.
+    fn act(&mut self, work: &Work, action: Action<'_>) -> Result<(), Self::Fault>
+        // what is ready is done, and what is done stays
+        ensures does { OnOk result (IsTrue (state self.new).is_clean
+            → Does (action_of action.entry) (state self.old).disk.tree (state self.new).disk.tree) }
+        // a failure does nothing or all
+        ensures outcome { IsTrue (state self.new).is_clean
+            → MayDo (action_of action.entry) (state self.old).disk.tree (state self.new).disk.tree }
+        // the journal stays
+        ensures journal { IsTrue (state self.new).is_clean → (state self.new).disk.journal ≡ (state self.old).disk.journal }
+        // what a crash leaves
+        ensures crash { IsOneCall (state self.old) (state self.new) }
+        // it fails only if a call failed, or if it can't be done
+        ensures cause { OnErr result (IsTrue (state self.new).is_clean
+            → IsReady (action_of action.entry) (state self.old).disk.tree ⊎ IsDone (action_of action.entry) (state self.old).disk.tree
+            → (state self.old).faults < (state self.new).faults) };
+
+    /// Compares what a stage leaves with what it is to leave. Changes nothing of the tree.
+    fn complete(&mut self, work: &Work, stage: Stage) -> Result<(), Self::Fault>
+        // the tree and the journal stay
+        ensures same { IsTrue (state self.new).is_clean → (state self.new).disk ≡ (state self.old).disk }
+        // what a crash leaves
+        ensures crash { IsOneCall (state self.old) (state self.new) }
+        // it fails only if a call failed, or if it can't be done
+        ensures cause { OnErr result (IsTrue (state self.new).is_clean → CanEnd work.now stage (state self.old).disk.tree
+            → (state self.old).faults < (state self.new).faults) };
+
+    /// Waits until all that was done is on the disk, and puts the journal of another stage in the place of the one before.
+    fn enter(&mut self, work: &Work, stage: Stage) -> Result<(), Self::Fault>
+        // the journal says the stage
+        ensures entered { OnOk result (IsTrue (state self.new).is_clean → (state self.new).disk.journal ≡ Some stage) }
+        // a failure does nothing or all
+        ensures outcome { IsTrue (state self.new).is_clean
+            → ((state self.new).disk.journal ≡ (state self.old).disk.journal) ⊎ ((state self.new).disk.journal ≡ Some stage) }
+        // the tree stays
+        ensures tree { IsTrue (state self.new).is_clean → (state self.new).disk.tree ≡ (state self.old).disk.tree }
+        // what a crash leaves
+        ensures crash { IsOneCall (state self.old) (state self.new) }
+        // it fails only if a call failed, or if it can't be done
+        ensures cause { OnErr result (IsTrue (state self.new).is_clean → (state self.old).faults < (state self.new).faults) };
+
+    /// Waits until all that was done is on the disk, and removes the run's own files, the journal last.
+    fn end(&mut self, work: &Work) -> Result<(), Self::Fault>
+        // no journal is there
+        ensures ended { OnOk result (IsTrue (state self.new).is_clean → (state self.new).disk.journal ≡ None) }
+        // a failure does nothing or all
+        ensures outcome { IsTrue (state self.new).is_clean
+            → ((state self.new).disk.journal ≡ (state self.old).disk.journal) ⊎ ((state self.new).disk.journal ≡ None) }
+        // the tree stays
+        ensures tree { IsTrue (state self.new).is_clean → (state self.new).disk.tree ≡ (state self.old).disk.tree }
+        // what a crash leaves
+        ensures crash { IsOneCall (state self.old) (state self.new) }
+        // it fails only if a call failed, or if it can't be done
+        ensures cause { OnErr result (IsTrue (state self.new).is_clean → (state self.old).faults < (state self.new).faults) };
+
+    /// Since this moment there is no other.
+    ghost only_now: { (executor : Self) (c : Disk) → (state executor).left_since (state executor).moment c
+        → (state executor).may_leave c };
+}

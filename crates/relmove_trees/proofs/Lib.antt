@@ -1,0 +1,2 @@
+pub mod FileTreesLemmas
+pub mod LeadToLemmas

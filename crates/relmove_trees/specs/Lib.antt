@@ -1,0 +1,2 @@
+pub mod FileTrees
+pub mod TreeActions
