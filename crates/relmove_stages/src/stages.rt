@@ -10,7 +10,12 @@ use crate::action::Action;
 use relmove_actions::Rename;
 use relmove_journal::{Leftover, Stage, TextFile, Work};
 
-/// The stage after this one. The last stage on each way has none.
+/// Returns the stage after this one. The last stage on each way has none.
+///
+/// ```
+/// assert_eq!(rt; next_stage(Stage::Staging), Some(Stage::Making));
+/// assert_eq!(rt; next_stage(Stage::Cleaning), None);
+/// ```
 pub fn next_stage(stage: Stage) -> Option<Stage>
     // the stage after it
     ensures next { result ≡ next_stage stage }
@@ -28,7 +33,12 @@ pub fn next_stage(stage: Stage) -> Option<Stage>
     }
 }
 
-/// The stage from which a run at a stage goes back, or `None` if it is too late.
+/// Returns the stage from which a run at a stage goes back, or `None` if it is too late.
+///
+/// ```
+/// assert_eq!(rt; stage_back(Stage::Placing), Some(Stage::Unplacing));
+/// assert_eq!(rt; stage_back(Stage::Cleaning), None);
+/// ```
 pub fn stage_back(stage: Stage) -> Option<Stage>
     // the stage that takes this one back
     ensures back { result ≡ stage_back stage }
@@ -46,8 +56,15 @@ pub fn stage_back(stage: Stage) -> Option<Stage>
     }
 }
 
-/// The action of this number of a stage, or `None` if the stage has fewer. At the stage `writing` the actions are those that
-/// take the run back. Allocates nothing.
+/// Returns the action of this number of a stage, or `None` if the stage has fewer. At the stage `writing` the actions are
+/// those that take the run back. Allocates nothing.
+///
+/// ```
+/// let mut work = Work::new(alloc);
+/// work.made.push(String::from_str(alloc, "guide")?)?;
+/// assert!(rt; matches!(action_at(&work, Stage::Making, 0), Some(Action::Make("guide"))));
+/// assert!(rt; action_at(&work, Stage::Making, 1).is_none());
+/// ```
 pub fn action_at(work: &Work, stage: Stage, number: usize) -> Option<Action<'_>>
     // what the stage does, in order
     ensures listed { option_map action_of result ≡ slice_get (stage_actions work.now stage) number }
