@@ -2,8 +2,11 @@
 use std::fmt::Debug;
 use std::test::Fail;
 
+mod draw;
 mod model;
+mod moved;
 mod planned;
+mod random;
 mod refusals;
 mod refused;
 mod runs;
