@@ -172,22 +172,38 @@ fn as_texts(alloc: Global, pairs: &[(String, String)]) -> Result<Vec<(&str, &str
     Ok(texts)
 }
 
+// Fails if moves are refused that may be done. Otherwise they aren't planned.
+fn is_refused_rightly(case: &str, may: bool) -> Result<bool, Fail> {
+    same(case, &false, &may)?;
+    Ok(false)
+}
+
 // Whether the moves of a trial are planned. Fails if the plan leads to another tree than the moves, or if moves are
 // refused that may be done, or planned that may not.
-fn is_planned(alloc: Global, case: &str, trial: &Trial) -> Result<bool, Fail> {
-    let rows = as_texts(alloc, &trial.rows)?;
-    let moves = as_texts(alloc, &trial.moves)?;
+fn is_planned_rightly(
+    alloc: Global,
+    case: &str,
+    trial: &Trial,
+    rows: &[(&str, &str)],
+    moves: &[(&str, &str)],
+) -> Result<bool, Fail> {
     let may = may_all_be_done(alloc, &trial.rows, &trial.moves)?;
-    let plan = planned(alloc, &rows, &moves, NameRule::Plain)?;
-    same(case, &plan.is_ok(), &may)?;
-    let Ok(plan) = plan else {
-        return Ok(false);
+    let plan = match planned(alloc, rows, moves, NameRule::Plain)? {
+        Ok(plan) => plan,
+        Err(_refusal) => return is_refused_rightly(case, may),
     };
-    let mut files = Files::of(alloc, &rows)?;
+    same(case, &true, &may)?;
+    let mut files = Files::of(alloc, rows)?;
     files.run(alloc, &plan.actions)?;
     let after = tree_after(alloc, &trial.rows, &trial.moves, &trial.links, &plan.pages)?;
     same(case, &files, &after)?;
     Ok(true)
+}
+
+fn is_planned(alloc: Global, case: &str, trial: &Trial) -> Result<bool, Fail> {
+    let rows = as_texts(alloc, &trial.rows)?;
+    let moves = as_texts(alloc, &trial.moves)?;
+    is_planned_rightly(alloc, case, trial, &rows, &moves)
 }
 
 #[test]
