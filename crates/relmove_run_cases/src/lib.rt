@@ -1,5 +1,6 @@
 //! Runs of `relmove_run` over the disk in memory of `relmove_disk`, for the tests of `relmove_run`: small trees with the
-//! actions of moves in them, runs that fail or are killed at a call, and comparisons of what they leave.
+//! actions of moves in them, runs that fail or are killed at a call, and comparisons of what they leave. The tests of
+//! `relmove_lib` compare by `same` and `holds` too.
 //!
 //! A module uses modules of the layers below.
 //!

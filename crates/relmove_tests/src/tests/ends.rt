@@ -1,9 +1,9 @@
 //! Calls that end a run: what they print, their status, and the tree after them.
 use crate::tests::outputs::Output;
-use crate::tests::reading::answers;
-use crate::tests::{holds, same};
+use relmove_cases::answers;
 use relmove_disk::{Content, Disk, DiskMachine, Place, disk_of};
 use relmove_lib::{Status, answer};
+use relmove_run_cases::{holds, same};
 use std::alloc::Global;
 use std::io;
 use std::test::Fail;

@@ -1,52 +1,19 @@
 //! What a call that moves files prints, its status, and the tree after it.
-use crate::tests::reading::answers;
-use crate::tests::{add_symlink, holds, same};
+use relmove_cases::{MOVED_SITE, PLANNED, Row, SITE, STAGED, WRITE, add_symlink, answers, does};
 use relmove_disk::{Content, Disk, DiskMachine, Failing, Place, disk_of, file_of};
 use relmove_lib::{Status, answer};
 use relmove_run::{Ended, Locked, Machine, Trust, resume};
+use relmove_run_cases::{holds, same};
 use std::alloc::Global;
 use std::io;
 use std::test::Fail;
 
-/// A call, and what it does.
-#[derive(Clone, Copy)]
-pub struct Row<'a> {
-    pub words: &'a [&'static str],
-    pub before: &'a [Place],
-    pub after: &'a [Place],
-    pub status: Status,
-    pub printed: &'a str,
-}
-
-/// Whether a call does what its row says, and prints nothing on standard error.
-pub fn does(alloc: Global, row: &Row<'_>) -> Result<(), Fail> {
-    let disk = disk_of(alloc, row.before)?;
-    answers(alloc, &disk, row.words, (row.status, row.printed, ""))?;
-    holds(alloc, "the tree", &disk, row.after)
-}
-
-/// A site with a page that links to another.
-pub const SITE: &[Place] = &[
-    ("index.md", Some("[o](guide/o.md#a) [o](guide/o.md)\n")),
-    ("guide", None),
-    ("guide/o.md", Some("[i](../index.md)\n")),
-];
-
-/// The site after a call of [`WRITE`].
-pub const MOVED_SITE: &[Place] = &[
-    ("index.md", Some("[o](n.md#a) [o](n.md)\n")),
-    ("n.md", Some("[i](index.md)\n")),
-];
-
-// The site after that call, if the directory that it emptied can't be removed.
+// The site after the call of `WRITE`, if the directory that it emptied can't be removed.
 const LEFT_SITE: &[Place] = &[
     ("index.md", Some("[o](n.md#a) [o](n.md)\n")),
     ("n.md", Some("[i](index.md)\n")),
     ("guide", None),
 ];
-
-/// A call that moves a page.
-pub const WRITE: &[&str] = &["--write", "site", "guide/o.md", "n.md"];
 
 #[test]
 fn moves_a_file(rt: HostRuntime) -> Result<(), Fail> {
@@ -663,12 +630,6 @@ fn refuses_where_memory_runs_out(rt: HostRuntime) -> Result<(), Fail> {
     refuses_for_lack_of_memory(rt.alloc(), &["--check", "site"])?;
     refuses_for_lack_of_memory(rt.alloc(), &["site", "a.md", "b.md"])
 }
-
-/// What a call of [`WRITE`] prints before it moves anything.
-pub const PLANNED: &str = "site/n.md, from site/guide/o.md: 1 link\nsite/index.md: 2 links\n";
-
-/// The staging name of what moves first.
-pub const STAGED: &str = "site/.relmove-run/1";
 
 // Removes a page before a call of the run, once it has its staging name. Whether the run went back by itself and said so.
 fn says_what_is_gone(alloc: Global, number: u32) -> Result<bool, Fail> {

@@ -1,8 +1,8 @@
 //! Calls whose standard output takes nothing, or fails at a flush.
-use crate::tests::moving::{MOVED_SITE, SITE, WRITE};
-use crate::tests::{holds, same};
+use relmove_cases::{MOVED_SITE, SITE, WRITE};
 use relmove_disk::{DiskMachine, Place, disk_of};
 use relmove_lib::{Status, answer};
+use relmove_run_cases::{holds, same};
 use std::alloc::Global;
 use std::io::{self, ErrorKind, Write};
 use std::test::Fail;

@@ -1,5 +1,5 @@
 //! Links to directories that moves leave empty.
-use crate::tests::reading::answers_in;
+use relmove_cases::answers_in;
 use relmove_disk::{Place, disk_of};
 use relmove_lib::Status;
 use std::test::Fail;

@@ -1,9 +1,8 @@
 //! Where a call moves to: a path, or a directory that is there or ends in a slash.
-use crate::tests::holds;
-use crate::tests::moving::{Row, does};
-use crate::tests::reading::answers;
+use relmove_cases::{Row, answers, does};
 use relmove_disk::{Place, disk_of};
 use relmove_lib::Status;
+use relmove_run_cases::holds;
 use std::alloc::Global;
 use std::test::Fail;
 

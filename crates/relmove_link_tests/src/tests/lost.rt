@@ -1,8 +1,8 @@
 //! Links that lead to something before a run, and to nothing or to something else after it.
-use crate::tests::reading::answers;
-use crate::tests::{add_symlink, same, words_of};
+use relmove_cases::{add_symlink, answers, words_of};
 use relmove_disk::{Content, Disk, DiskMachine, Place, disk_of, file_of};
 use relmove_lib::{Status, answer};
+use relmove_run_cases::same;
 use std::alloc::Global;
 use std::io;
 use std::test::Fail;

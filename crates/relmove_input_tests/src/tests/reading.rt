@@ -1,8 +1,9 @@
 //! What is read below a root, and which links lead to nothing.
-use crate::tests::same;
+use relmove_cases::answers;
 use relmove_disk::{Content, Disk, DiskMachine};
 use relmove_lib::{EntryKind, Position, Status, answer, position_after, read_tree};
 use relmove_run::{Machine, RunFault};
+use relmove_run_cases::same;
 use std::alloc::Global;
 use std::io;
 use std::test::Fail;
@@ -143,36 +144,6 @@ const PRINTED: &str =
 
 const UNREAD: &str =
     "relmove: no.md isn't UTF-8, and isn't read\nrelmove: base.md has a <base href>, and its links aren't read\nrelmove: a name in the directory site can't be read, or isn't UTF-8\nrelmove: a name in the directory guide can't be read, or isn't UTF-8\n";
-
-/// Whether a call has this status and prints this.
-pub fn answers(
-    alloc: Global,
-    disk: &Disk,
-    words: &[&str],
-    expected: (Status, &str, &str),
-) -> Result<(), Fail> {
-    answers_in(alloc, "a call", disk, words, expected)
-}
-
-/// Fails in the words of this case where a call has another status, or prints something else.
-pub fn answers_in(
-    alloc: Global,
-    case: &str,
-    disk: &Disk,
-    words: &[&str],
-    expected: (Status, &str, &str),
-) -> Result<(), Fail> {
-    let (mut out, mut errors) = (Vec::new(alloc), Vec::new(alloc));
-    let status = answer(
-        &DiskMachine(disk),
-        words,
-        &mut io::empty(),
-        &mut out,
-        &mut errors,
-    );
-    let (out, errors) = (String::from_utf8(out)?, String::from_utf8(errors)?);
-    same(case, &(status, out.as_str(), errors.as_str()), &expected)
-}
 
 #[test]
 fn prints_dead_links(rt: HostRuntime) -> Result<(), Fail> {

@@ -1,10 +1,10 @@
 //! What the arguments of a call mean.
-use crate::tests::reading::answers;
-use crate::tests::same;
+use relmove_cases::answers;
 use relmove_disk::Disk;
 use relmove_lib::report::{HELP, USAGE};
 use relmove_lib::{Effect, NameRule, Status, Task, WrongCall, task_of};
 use relmove_run::Direction;
+use relmove_run_cases::same;
 use std::alloc::Global;
 use std::test::Fail;
 

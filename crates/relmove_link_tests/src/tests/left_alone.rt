@@ -1,9 +1,8 @@
 //! What a call names or passes over: symbolic links, names with dots, names that aren't UTF-8.
-use crate::tests::moving::{Row, does};
-use crate::tests::reading::answers;
-use crate::tests::{add_symlink, holds, same};
+use relmove_cases::{Row, add_symlink, answers, does};
 use relmove_disk::{Content, Disk, DiskMachine, Place, disk_of};
 use relmove_lib::{Status, answer};
+use relmove_run_cases::{holds, same};
 use std::alloc::Global;
 use std::io;
 use std::test::Fail;

@@ -1,8 +1,8 @@
 //! Lists of moves, in a file or on standard input.
-use crate::tests::moving::{MOVED_SITE, SITE};
-use crate::tests::{holds, same};
+use relmove_cases::{MOVED_SITE, SITE};
 use relmove_disk::{Content, DiskMachine, Place, disk_of, file_of};
 use relmove_lib::{Status, WrongList, answer, moves_of_list};
+use relmove_run_cases::{holds, same};
 use std::alloc::Global;
 use std::test::Fail;
 

@@ -1,6 +1,5 @@
 //! Where the old paths of a run are written, apart from links that are read.
-use crate::tests::moving::{Row, does};
-use crate::tests::reading::{answers, answers_in};
+use relmove_cases::{Row, answers, answers_in, does};
 use relmove_disk::{Content, Disk, Place, disk_of};
 use relmove_lib::Status;
 use std::alloc::Global;

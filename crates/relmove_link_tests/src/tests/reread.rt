@@ -1,5 +1,5 @@
 //! Pages that would be read otherwise with a new target: the name of an element between angles, at the start of a line.
-use crate::tests::moving::{Row, does};
+use relmove_cases::{Row, does};
 use relmove_disk::Place;
 use relmove_lib::Status;
 use std::test::Fail;

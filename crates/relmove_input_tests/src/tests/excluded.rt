@@ -1,9 +1,8 @@
 //! Which pages are read: what is excluded, what names and texts pages have, and what begins with a dot.
-use crate::tests::holds;
-use crate::tests::moving::{Row, does};
-use crate::tests::reading::answers;
+use relmove_cases::{Row, answers, does};
 use relmove_disk::{Content, Place, disk_of};
 use relmove_lib::Status;
+use relmove_run_cases::holds;
 use std::test::Fail;
 
 // Pages that link to one that moves, and to nothing.

@@ -1,6 +1,5 @@
 //! Calls that print more: each target that changes, and how much was read.
-use crate::tests::moving::{Row, SITE, does};
-use crate::tests::reading::answers;
+use relmove_cases::{Row, SITE, answers, does};
 use relmove_disk::{Place, disk_of};
 use relmove_lib::Status;
 use std::test::Fail;

@@ -1,8 +1,8 @@
 //! Directories that the caller may not change: a call says so before it moves anything.
-use crate::tests::reading::answers;
-use crate::tests::{add_symlink, same, words_of};
+use relmove_cases::{add_symlink, answers, words_of};
 use relmove_disk::{Content, Disk, Place, disk_of};
 use relmove_lib::Status;
+use relmove_run_cases::same;
 use std::alloc::Global;
 use std::test::Fail;
 

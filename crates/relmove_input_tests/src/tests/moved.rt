@@ -1,9 +1,8 @@
 //! Moves that were made before the call: only pages change, where they are now.
-use crate::tests::moving::{MOVED_SITE, Row, does};
-use crate::tests::reading::answers;
-use crate::tests::{add_symlink, holds};
+use relmove_cases::{MOVED_SITE, Row, add_symlink, answers, does};
 use relmove_disk::{Place, disk_of};
 use relmove_lib::Status;
+use relmove_run_cases::holds;
 use std::alloc::Global;
 use std::test::Fail;
 

@@ -1,8 +1,8 @@
 //! Objects of JSON in place of words.
-use crate::tests::moving::{self, MOVED_SITE, Row, SITE, does};
-use crate::tests::same;
+use relmove_cases::{MOVED_SITE, PLANNED, Row, SITE, STAGED, does};
 use relmove_disk::{DiskMachine, Failing, Place, disk_of};
 use relmove_lib::{Status, answer};
+use relmove_run_cases::same;
 use std::alloc::Global;
 use std::io;
 use std::test::Fail;
@@ -103,7 +103,7 @@ const TAKEN_BACK: &str =
 // what it left in JSON, and why on standard error.
 fn prints_what_is_gone(alloc: Global, number: u32) -> Result<bool, Fail> {
     let disk = disk_of(alloc, SITE)?;
-    disk.remove_before(number, moving::STAGED)?;
+    disk.remove_before(number, STAGED)?;
     let (mut out, mut errors) = (Vec::new(alloc), Vec::new(alloc));
     let status = answer(
         &DiskMachine(&disk),
@@ -147,7 +147,7 @@ const IN_WORDS: &str =
 
 #[test]
 fn prints_what_a_run_leaves_in_words(rt: HostRuntime) -> Result<(), Fail> {
-    prints_left(rt.alloc(), moving::WRITE, (moving::PLANNED, IN_WORDS))
+    prints_left(rt.alloc(), relmove_cases::WRITE, (PLANNED, IN_WORDS))
 }
 
 const LEFT: &[Place] = &[
