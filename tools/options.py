@@ -4,8 +4,8 @@ import re
 
 from common import CRATES
 
-REPORT = CRATES / "relmove_lib/src/report.rt"
-ARGUMENTS = CRATES / "relmove_lib/src/arguments.rt"
+REPORT = CRATES / "relmove_report/src/report.rt"
+ARGUMENTS = CRATES / "relmove_arguments/src/arguments.rt"
 PROGRAM = CRATES / "relmove_lib/src/program.rt"
 
 OPTION = re.compile(r"--[a-z-]+")

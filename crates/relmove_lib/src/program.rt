@@ -1,24 +1,23 @@
 //! A whole call of the program: its arguments, what it does, what it prints, its status.
-use crate::arguments::{Effect, Task, task_of};
-use crate::dead_links::{Checked, check_links};
-use crate::destinations::{NewKind, whole_moves};
-use crate::mentions::{MentionPlaces, SearchOptions, mentions_of};
-use crate::move_list::moves_of_list;
-use crate::moved::{MadeMoves, StoreBefore, keep_dead_targets};
-use crate::moving::{Moving, WhyRefused, moving_of};
-use crate::report::{
+use relative_path_links::MovedSitePage;
+use relmove_actions::Actions;
+use relmove_arguments::{Effect, Task, moves_of_list, task_of};
+use relmove_findings::{Moving, WhyRefused};
+use relmove_folder::{
+    Checked, MentionPlaces, Page, SearchOptions, Tree, Unread, check_links, has_reserved_name,
+    mentions_of, read_tree,
+};
+use relmove_moved::{MadeMoves, StoreBefore, keep_dead_targets};
+use relmove_moving::{NewKind, moving_of, need_writable, whole_moves};
+use relmove_plan::{NameRule, Plan};
+use relmove_report::report::{
     HELP, USAGE, print_changes, print_dead_link, print_dead_link_as_json, print_end, print_failure,
     print_remarks, print_remarks_as_json, remarks_of,
 };
-use crate::summary::{
+use relmove_report::summary::{
     Counts, Style, counts_of, print_checked, print_checked_as_json, print_did, print_mentions,
     print_mentions_as_json, print_moving, print_moving_as_json, print_refused, print_would,
 };
-use crate::tree::{Page, Tree, Unread, has_reserved_name, read_tree};
-use crate::writable::need_writable;
-use relative_path_links::MovedSitePage;
-use relmove_actions::Actions;
-use relmove_plan::{NameRule, Plan};
 use relmove_run::{
     Direction, Ended, Locked, Machine, PageText, Printable, Remark, RunFault, StoppedRun, Store,
     SystemCall, Trust, at, carry_out, directory_of, fault_of, need_no_journal_below,
@@ -570,7 +569,7 @@ fn asked_mentions<S: Store>(
         excluded: options.excluded,
         made: options.made,
     };
-    mentions_of(store, tree, plan, options)
+    mentions_of(store, tree, &plan.moves, &plan.pages, options)
 }
 
 // The directories below the root that were read, as texts.

@@ -1,0 +1,34 @@
+//! What is in a folder of Markdown pages, for `relmove`: its files and directories, the texts of the pages, the links that lead
+//! to nothing, and the lines in which old paths of moves are written.
+//!
+//! A module uses modules of the layers below.
+//!
+//! ```text
+//! what is in the pages    dead_links  mentions
+//! what is at a path       presence  seen
+//! what is below the root  tree
+//! what all share          position
+//! ```
+#![tactic(auto)]
+
+pub use self::dead_links::{
+    Checked, DeadLink, WhyDead, check_links, dead_links_of, leads_somewhere,
+};
+pub use self::mentions::{
+    MOST_PLACES, MentionPlace, MentionPlaces, SearchOptions, mentions_of, shown_path,
+};
+pub use self::position::{Position, Positions, position_after};
+pub use self::presence::{Presence, presence_at};
+pub use self::seen::{Seen, find, known_answer, seen_by_system};
+pub use self::tree::{
+    EntryKind, LONGEST_PAGE, Page, Tree, Unread, cannot_read, has_path, has_reserved_name,
+    has_unread_name, is_at_or_below, is_directory, is_directory_entry, is_read_directory,
+    normal_text, read_tree,
+};
+
+mod dead_links;
+mod mentions;
+mod position;
+mod presence;
+mod seen;
+mod tree;
