@@ -1,7 +1,7 @@
 //! What is read below a root, and which links lead to nothing.
 use relmove_cases::answers;
 use relmove_disk::{Content, Disk, DiskMachine};
-use relmove_lib::{EntryKind, Position, Status, answer, position_after, read_tree};
+use relmove_lib::{EntryKind, Position, Status, position_after, read_tree};
 use relmove_run::{Machine, RunFault};
 use relmove_run_cases::same;
 use std::alloc::Global;
