@@ -2,3 +2,4 @@ pub mod Printing
 pub mod Permissions
 pub mod Ends
 pub mod Faults
+pub mod Unknown

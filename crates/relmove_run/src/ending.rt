@@ -1,12 +1,13 @@
 //! What the end of a run that stopped would do.
 ghost use Rattle.std.specs.Prelude.{◌≡◌, MatchResult, None, Some};
-ghost use Rattle.relmove_run.specs.Ends.{stage_back, stage_to_end};
+ghost use Rattle.relmove_run.specs.Ends.{stage_to_end};
 ghost use Rattle.relmove_run.specs.declared.fault.RunFault.TheVariants.{TooLate};
 
 use crate::change::Change;
 use crate::fault::RunFault;
-use crate::stages::{MOST_STAGES, actions_of, next_stage};
+use crate::stages::{actions_of, change_of};
 use relmove_journal::{Stage, Work};
+use relmove_stages::{next_stage, stage_back};
 use std::alloc::{AllocError, Global};
 
 /// The direction in which a run that stopped is ended.
@@ -26,35 +27,13 @@ pub(crate) fn stage_to_end(direction: Direction, stage: Stage) -> Result<Stage, 
 {
     match direction {
         Direction::Resume => Ok(stage),
-        Direction::Undo => stage_back(stage),
-    }
-}
-
-// The stage from which a run at a stage goes back. Fails if it is too late.
-fn stage_back(stage: Stage) -> Result<Stage, RunFault>
-    ensures { MatchResult result
-        (λ next. stage_back stage ≡ Some next)
-        (λ fault. (fault ≡ TooLate) × (stage_back stage ≡ None)) }
-{
-    match stage {
-        Stage::Writing => Ok(Stage::Writing),
-        Stage::Staging => Ok(Stage::Unstaging),
-        Stage::Making => Ok(Stage::Unmaking),
-        Stage::Placing => Ok(Stage::Unplacing),
-        Stage::Cleaning => Err(RunFault::TooLate),
-        Stage::Unplacing => Ok(Stage::Unplacing),
-        Stage::Unmaking => Ok(Stage::Unmaking),
-        Stage::Unstaging => Ok(Stage::Unstaging),
-        Stage::Erasing => Ok(Stage::Erasing),
+        Direction::Undo => stage_back(stage).ok_or(RunFault::TooLate),
     }
 }
 
 // Whether a run at a stage goes on to its end, and not back.
 pub(crate) fn goes_on(stage: Stage) -> bool {
-    match &stage_back(stage) {
-        Ok(back) => *back != stage,
-        Err(_) => true,
-    }
+    stage_back(stage) != Some(stage)
 }
 
 // The changes that a run makes from a stage on. Some of them may be made already.
@@ -67,13 +46,10 @@ pub(crate) fn changes_from(
 ) -> Result<Vec<Change>, AllocError> {
     let mut changes = Vec::new(alloc);
     push_changes(alloc, work, stage, &mut changes)?;
-    let mut last = stage;
-    for _ in 0..MOST_STAGES {
-        let Some(next) = next_stage(last) else {
-            break;
-        };
+    let mut at = stage;
+    while let Some(next) = next_stage(at) {
         push_changes(alloc, work, next, &mut changes)?;
-        last = next;
+        at = next;
     }
     Ok(changes)
 }
@@ -86,7 +62,7 @@ fn push_changes(
     changes: &mut Vec<Change>,
 ) -> Result<(), AllocError> {
     for action in &actions_of(alloc, work, stage)? {
-        changes.push(action.change(alloc)?)?;
+        changes.push(change_of(alloc, *action)?)?;
     }
     Ok(())
 }

@@ -7,7 +7,7 @@
 //! a call              run
 //! the work            worker  ending
 //! parts of it         run_files  near  possible  synced  above
-//! a stage             stages
+//! a stage             stages  machine
 //! single calls        disk  staging_names
 //! what all share      printable  fault  remark  change
 //! files               store  file_store
@@ -37,6 +37,7 @@ mod disk;
 mod ending;
 mod fault;
 mod file_store;
+mod machine;
 mod near;
 mod possible;
 mod printable;

@@ -15,6 +15,7 @@ use crate::store::{Found, PageFile, Store};
 use crate::worker::Worker;
 use relmove_actions::{Actions, NewText, Rename};
 use relmove_journal::{Journal, Leftover, Stage, TextDigest, TextFile, Work, is_of_run};
+use relmove_stages::Executor;
 use std::alloc::{AllocError, Global};
 use std::collections::BTreeMap;
 
@@ -113,8 +114,12 @@ pub fn carry_out<S: Store + Drop>(
     pages: &[PageText<'_>],
     directories: &[&str],
 ) -> Ended {
-    match begin(locked, actions, pages, directories) {
-        Ok(worker) => go_on_or_back(worker),
+    let (changes, work, worker) = match prepare(locked, actions, pages) {
+        Ok(prepared) => prepared,
+        Err(fault) => return Ended::Refused(fault),
+    };
+    match begin(worker, &work, &changes, directories) {
+        Ok(worker) => go_on_or_back(worker, &work),
         Err(ended) => ended,
     }
 }
@@ -168,9 +173,14 @@ impl StoppedRun {
         if let Err(fault) = stage_to_end(direction, self.journal.stage) {
             return Ended::Refused(fault);
         }
-        match (open(locked, self), direction) {
-            (Ok(worker), Direction::Resume) => end_from(worker),
-            (Ok(worker), Direction::Undo) => turn_back(worker, None),
+        let StoppedRun {
+            found,
+            journal,
+            trust,
+        } = self;
+        match (open(locked, &found, &journal, trust), direction) {
+            (Ok(worker), Direction::Resume) => end_from(worker, &journal.work),
+            (Ok(worker), Direction::Undo) => turn_back(worker, &journal.work, None),
             (Err(fault), _) => Ended::Refused(fault),
         }
     }
@@ -193,43 +203,41 @@ fn end_stopped<S: Store + Drop>(
 }
 
 // Ends a run from its stage: goes on, or goes on back.
-fn end_from<S: Store + Drop>(worker: Worker<S>) -> Ended {
+fn end_from<S: Store + Drop>(worker: Worker<S>, work: &Work) -> Ended {
     if goes_on(worker.stage()) {
-        return go_on_or_back(worker);
+        return go_on_or_back(worker, work);
     }
-    go_back(worker, None)
+    go_back(worker, work)
 }
 
 // Takes a run back, unless it is too late. If it goes back by itself, it has a cause.
-fn turn_back<S: Store + Drop>(mut worker: Worker<S>, cause: Option<RunFault>) -> Ended {
-    let stage = match stage_to_end(Direction::Undo, worker.stage()) {
-        Ok(stage) => stage,
-        Err(fault) => return Ended::Refused(fault),
-    };
-    if stage != worker.stage()
-        && let Err(fault) = worker.enter(stage)
-    {
-        return stop(worker, fault);
+fn turn_back<S: Store + Drop>(
+    mut worker: Worker<S>,
+    work: &Work,
+    cause: Option<RunFault>,
+) -> Ended {
+    match worker.turn_back(work) {
+        Ok(true) => Ended::TakenBack {
+            cause,
+            remarks: worker.into_remarks(),
+        },
+        Ok(false) => Ended::Refused(RunFault::TooLate),
+        Err(fault) => stop(worker, fault),
     }
-    go_back(worker, cause)
 }
 
 // Does everything up to the first rename.
 fn begin<S: Store + Drop>(
-    locked: Locked<S>,
-    actions: Actions,
-    pages: &[PageText<'_>],
+    mut worker: Worker<S>,
+    work: &Work,
+    changes: &[PageChange],
     directories: &[&str],
 ) -> Result<Worker<S>, Ended> {
-    let (changes, mut worker) = match prepare(locked, actions, pages) {
-        Ok(prepared) => prepared,
-        Err(fault) => return Err(Ended::Refused(fault)),
-    };
-    if let Err(fault) = write_texts(&mut worker, &changes, directories) {
-        return Err(refuse(worker, fault));
+    if let Err(fault) = write_texts(&mut worker, work, changes, directories) {
+        return Err(refuse(worker, work, fault));
     }
-    if let Err(fault) = worker.enter(Stage::Staging) {
-        return Err(refuse_staging(worker, fault));
+    if let Err(fault) = worker.enter(work, Stage::Staging) {
+        return Err(refuse_staging(worker, work, fault));
     }
     Ok(worker)
 }
@@ -239,7 +247,7 @@ fn prepare<S: Store + Drop>(
     locked: Locked<S>,
     actions: Actions,
     pages: &[PageText<'_>],
-) -> Result<(Vec<PageChange>, Worker<S>), RunFault> {
+) -> Result<(Vec<PageChange>, Work, Worker<S>), RunFault> {
     let Locked(mut store) = locked;
     let files = none_yet(&mut store)?;
     need_possible(&mut store, &actions)?;
@@ -252,7 +260,7 @@ fn prepare<S: Store + Drop>(
         return Err(RunFault::NotAPlan);
     }
     let changes = changes_of(store.alloc(), texts, pages)?;
-    Ok((changes, Worker::new(store, files, work)))
+    Ok((changes, work, Worker::new(store, files)))
 }
 
 // The new texts, and the work of a run with them.
@@ -341,25 +349,26 @@ fn cleaned_of(
 // sees the other's journal.
 fn write_texts<S: Store + Drop>(
     worker: &mut Worker<S>,
+    work: &Work,
     changes: &[PageChange],
     directories: &[&str],
 ) -> Result<(), RunFault> {
-    worker.begin()?;
+    worker.begin(work)?;
     worker.look_near(directories)?;
     worker.write_texts(changes)
 }
 
 // Takes back what was done, if the journal may say that things get staging names.
-fn refuse_staging<S: Store + Drop>(mut worker: Worker<S>, fault: RunFault) -> Ended {
-    if worker.enter(Stage::Erasing).is_err() {
+fn refuse_staging<S: Store + Drop>(mut worker: Worker<S>, work: &Work, fault: RunFault) -> Ended {
+    if worker.enter(work, Stage::Erasing).is_err() {
         return stop(worker, fault);
     }
-    refuse(worker, fault)
+    refuse(worker, work, fault)
 }
 
 // Takes back what was done.
-fn refuse<S: Store + Drop>(mut worker: Worker<S>, fault: RunFault) -> Ended {
-    if worker.finish().is_err() && may_have_journal(&mut worker) {
+fn refuse<S: Store + Drop>(mut worker: Worker<S>, work: &Work, fault: RunFault) -> Ended {
+    if worker.finish(work).is_err() && may_have_journal(&mut worker) {
         return stop(worker, fault);
     }
     refusal(fault, worker.into_remarks())
@@ -397,37 +406,36 @@ fn stop<S: Store + Drop>(mut worker: Worker<S>, fault: RunFault) -> Ended {
 }
 
 // The run that goes on from where it stopped.
-fn open<S: Store + Drop>(locked: Locked<S>, run: StoppedRun) -> Result<Worker<S>, RunFault> {
+fn open<S: Store + Drop>(
+    locked: Locked<S>,
+    found: &Found,
+    journal: &Journal,
+    trust: Trust,
+) -> Result<Worker<S>, RunFault> {
     let Locked(mut store) = locked;
-    let StoppedRun {
-        found,
-        journal,
-        trust,
-    } = run;
-    let files = run_files_of(&mut store, &found, journal.origin, trust)?;
+    let files = run_files_of(&mut store, found, journal.origin, trust)?;
     // A run may have been killed before the journal's name was on the disk. Nothing that comes now may be there without it.
     sync_directory(&mut store, "")?;
-    let Journal { stage, work, .. } = journal;
-    need_no_symlinks_above(&mut store, &work)?;
-    let mut worker = Worker::at(store, files, work, stage)?;
+    need_no_symlinks_above(&mut store, &journal.work)?;
+    let mut worker = Worker::at(store, files, &journal.work, journal.stage)?;
     worker.take_directory()?;
     Ok(worker)
 }
 
 // Goes on to the end. If a page was changed before it got its staging name, goes back.
-fn go_on_or_back<S: Store + Drop>(mut worker: Worker<S>) -> Ended {
-    match worker.finish() {
+fn go_on_or_back<S: Store + Drop>(mut worker: Worker<S>, work: &Work) -> Ended {
+    match worker.finish(work) {
         Ok(()) => Ended::Done(worker.into_remarks()),
-        Err(RunFault::Changed(page)) => turn_back(worker, Some(RunFault::Changed(page))),
+        Err(RunFault::Changed(page)) => turn_back(worker, work, Some(RunFault::Changed(page))),
         Err(fault) => stop(worker, fault),
     }
 }
 
 // Goes back to the beginning.
-fn go_back<S: Store + Drop>(mut worker: Worker<S>, cause: Option<RunFault>) -> Ended {
-    match worker.finish() {
+fn go_back<S: Store + Drop>(mut worker: Worker<S>, work: &Work) -> Ended {
+    match worker.finish(work) {
         Ok(()) => Ended::TakenBack {
-            cause,
+            cause: None,
             remarks: worker.into_remarks(),
         },
         Err(fault) => stop(worker, fault),

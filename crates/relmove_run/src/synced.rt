@@ -1,9 +1,10 @@
 //! Syncs the directories in which a stage of a run changed names, and removes the names that a loss of power kept there.
 use crate::disk::{Above, remove_second_name, sync_directory};
 use crate::fault::RunFault;
-use crate::stages::{Action, actions_of};
+use crate::stages::{actions_of, path_of, paths_of};
 use crate::store::Store;
 use relmove_journal::{Stage, Work, directory_of, join, name_of};
+use relmove_stages::Action;
 use std::alloc::{AllocError, Global};
 use std::collections::{BTreeMap, BTreeSet};
 
@@ -41,7 +42,7 @@ fn left_names_of(
 ) -> Result<Vec<(String, &str)>, AllocError> {
     let mut left = Vec::new(alloc);
     for action in &actions_of(alloc, work, stage)? {
-        if let Some(paths) = action.paths() {
+        if let Some(paths) = paths_of(*action) {
             left.push(paths)?;
         }
     }
@@ -88,7 +89,7 @@ fn new_paths_of<'a>(
 ) -> Result<BTreeMap<&'a str, &'a str>, AllocError> {
     let mut names = BTreeMap::new(alloc);
     for action in actions {
-        if let Some((from, to)) = action.paths() {
+        if let Some((from, to)) = paths_of(*action) {
             names.insert(from, to)?;
         }
     }
@@ -103,8 +104,8 @@ fn add_directories(
     names: &BTreeMap<&str, &str>,
     directories: &mut BTreeSet<String>,
 ) -> Result<(), AllocError> {
-    let directory = directory_of(action.path());
-    if let Some((_, to)) = action.paths() {
+    let directory = directory_of(path_of(action));
+    if let Some((_, to)) = paths_of(action) {
         directories.insert(place_after(alloc, names, directory)?)?;
         return add(alloc, directory_of(to), directories);
     }

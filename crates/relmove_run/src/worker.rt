@@ -1,20 +1,23 @@
-//! Does the work of a run, from any stage on. Each step asks first whether it is done.
+//! Does the work of a run, from any stage on. Each action asks first whether it is done.
+ghost use Rattle.relmove_run.specs.Unknown.{unknown};
+
 use crate::disk::{
     Above, PageChange, RunFile, Written, are_names_of_one_file, carry, copy_of, digest_at,
     digest_of_found, find, find_to_remove, is_there, make_directory, need_run_directory,
     remove_directory, remove_file, unmake_directory, write_text,
 };
 use crate::fault::RunFault;
+use crate::machine::{finish_stages, turn_stages_back};
 use crate::near::look_near;
 use crate::remark::Remark;
 use crate::run_files::{
     RunFiles, make_run_directory, need_untaken, put_first, put_next, remove_all, take_directory,
 };
-use crate::stages::{Action, MOST_STAGES, actions_of, next_stage};
 use crate::store::{Found, FoundKind, Store};
 use crate::synced::{remove_left_names, sync_stage};
 use relmove_actions::Rename;
 use relmove_journal::{Leftover, Stage, TextDigest, TextFile, Work};
+use relmove_stages::{Action, Executor};
 use std::alloc::AllocError;
 use std::io::ErrorKind;
 
@@ -23,7 +26,6 @@ use std::io::ErrorKind;
 pub(crate) struct Worker<S: Drop> {
     store: S,
     files: RunFiles,
-    work: Work,
     stage: Stage,
     // The files of the first new texts, which the run may have made.
     written: Vec<Written>,
@@ -36,13 +38,12 @@ pub(crate) struct Worker<S: Drop> {
 
 impl<S: Store + Drop> Worker<S> {
     // A run that begins.
-    pub(crate) fn new(store: S, files: RunFiles, work: Work) -> Worker<S> {
+    pub(crate) fn new(store: S, files: RunFiles) -> Worker<S> {
         let (written, remarks) = (Vec::new(store.alloc()), Vec::new(store.alloc()));
         let above = Above::new(store.alloc());
         Worker {
             store,
             files,
-            work,
             stage: Stage::Writing,
             written,
             may_have_both_names: false,
@@ -55,7 +56,7 @@ impl<S: Store + Drop> Worker<S> {
     pub(crate) fn at(
         store: S,
         files: RunFiles,
-        work: Work,
+        work: &Work,
         stage: Stage,
     ) -> Result<Worker<S>, AllocError> {
         let mut written = Vec::with_capacity(store.alloc(), work.texts.len())?;
@@ -70,7 +71,6 @@ impl<S: Store + Drop> Worker<S> {
         Ok(Worker {
             store,
             files,
-            work,
             stage,
             written,
             may_have_both_names: true,
@@ -100,10 +100,10 @@ impl<S: Store + Drop> Worker<S> {
     }
 
     // Makes the run's own directory, and puts the first journal in its place.
-    pub(crate) fn begin(&mut self) -> Result<(), RunFault> {
+    pub(crate) fn begin(&mut self, work: &Work) -> Result<(), RunFault> {
         let inode = make_run_directory(&mut self.store, &mut self.files)?;
         self.above.set_run_directory(inode);
-        put_first(&mut self.store, &mut self.files, &self.work)
+        put_first(&mut self.store, &mut self.files, work)
     }
 
     // Fails if a directory above the root, or one of these below it, has another journal of the user whose run this is. Notes
@@ -116,16 +116,6 @@ impl<S: Store + Drop> Worker<S> {
     // Takes the directory of a run that stopped.
     pub(crate) fn take_directory(&mut self) -> Result<(), RunFault> {
         take_directory(&mut self.store, &mut self.above, &mut self.files)
-    }
-
-    // Ends a stage, and puts the journal of the next one in its place. The run is at that stage if the call returns
-    // `Ok`. Otherwise the journal may say either stage.
-    pub(crate) fn enter(&mut self, stage: Stage) -> Result<(), RunFault> {
-        need_untaken(&mut self.store, &self.files)?;
-        sync_stage(&mut self.store, &self.work, self.stage)?;
-        put_next(&mut self.store, &mut self.files, stage, &self.work)?;
-        self.stage = stage;
-        Ok(())
     }
 
     // Writes the new texts.
@@ -141,83 +131,110 @@ impl<S: Store + Drop> Worker<S> {
 
     // Does what is left of the run's stage and of those after it, and ends the run. At the stages `writing` and `erasing`
     // this needs no room on the disk.
-    pub(crate) fn finish(&mut self) -> Result<(), RunFault> {
-        self.do_stage()?;
-        for _ in 0..MOST_STAGES {
-            let Some(next) = next_stage(self.stage) else {
-                break;
-            };
-            self.enter(next)?;
-            self.do_stage()?;
-        }
-        self.end()
+    pub(crate) fn finish(&mut self, work: &Work) -> Result<(), RunFault> {
+        let stage = self.stage;
+        finish_stages(self, work, stage)
     }
 
-    // Does the actions of the run's stage.
-    fn do_stage(&mut self) -> Result<(), RunFault> {
-        if needs_run_directory(self.stage) {
+    // Takes the run back, and returns `true`, or returns `false` if it is too late.
+    pub(crate) fn turn_back(&mut self, work: &Work) -> Result<bool, RunFault> {
+        let stage = self.stage;
+        turn_stages_back(self, work, stage)
+    }
+
+    // Removes the names that a loss of power kept of what has its staging name.
+    fn remove_left_names(&mut self, work: &Work, stage: Stage) -> Result<(), RunFault> {
+        if self.may_have_both_names {
+            remove_left_names(&mut self.store, &mut self.above, work, stage)?;
+        }
+        Ok(())
+    }
+}
+
+impl<S: Store + Drop> Executor for Worker<S> {
+    type Fault = RunFault;
+
+    // Of real files nothing is known.
+    ghost state = { λ _. unknown };
+
+    ghost only_now = { λ _ _ left. left };
+
+    // Asks for the run's own directory, and for the new texts before they are placed.
+    fn prepare(&mut self, work: &Work, stage: Stage) -> Result<(), RunFault> {
+        if needs_run_directory(stage) {
             need_run_directory(&mut self.store, &self.above)?;
         }
-        if self.stage == Stage::Placing {
-            self.need_new_texts()?;
+        if stage == Stage::Placing {
+            need_new_texts(&mut self.store, work)?;
         }
-        act_at(
+        Ok(())
+    }
+
+    // Does an action, unless it is done.
+    fn act(&mut self, work: &Work, action: Action<'_>) -> Result<(), RunFault> {
+        act(
             &mut self.store,
             &mut self.above,
-            &self.work,
+            work,
             &self.written,
-            self.stage,
+            action,
             &mut self.remarks,
-        )?;
-        match self.stage {
+        )
+    }
+
+    // Removes names that a loss of power kept, and compares the old texts when they have their staging names.
+    fn complete(&mut self, work: &Work, stage: Stage) -> Result<(), RunFault> {
+        match stage {
             Stage::Staging => {
-                self.remove_left_names()?;
-                self.need_old_texts()
+                self.remove_left_names(work, stage)?;
+                need_old_texts(&mut self.store, work)
             }
-            Stage::Unplacing => self.remove_left_names(),
+            Stage::Unplacing => self.remove_left_names(work, stage),
             _ => Ok(()),
         }
     }
 
-    // Removes the names that a loss of power kept of what has its staging name.
-    fn remove_left_names(&mut self) -> Result<(), RunFault> {
-        if self.may_have_both_names {
-            remove_left_names(&mut self.store, &mut self.above, &self.work, self.stage)?;
-        }
+    // Ends a stage, and puts the journal of the next one in its place. The run is at that stage if the call returns
+    // `Ok`. Otherwise the journal may say either stage.
+    fn enter(&mut self, work: &Work, stage: Stage) -> Result<(), RunFault> {
+        need_untaken(&mut self.store, &self.files)?;
+        sync_stage(&mut self.store, work, self.stage)?;
+        put_next(&mut self.store, &mut self.files, stage, work)?;
+        self.stage = stage;
         Ok(())
     }
 
     // Removes the run's own files.
-    fn end(&mut self) -> Result<(), RunFault> {
-        sync_stage(&mut self.store, &self.work, self.stage)?;
+    fn end(&mut self, work: &Work) -> Result<(), RunFault> {
+        sync_stage(&mut self.store, work, self.stage)?;
         remove_all(&mut self.store, &mut self.files, &mut self.remarks)
     }
+}
 
-    // Fails if what has the staging name of a new text isn't this text.
-    fn need_new_texts(&mut self) -> Result<(), RunFault> {
-        for text in &self.work.texts {
-            let path = text.path.as_str();
-            if let Some(found) = find(&mut self.store, path)?
-                && digest_of_found(&mut self.store, path, &found)? != Some(text.digest)
-            {
-                return Err(RunFault::OtherText(copy_of(&self.store, path)?));
-            }
+// Fails if what has the staging name of a new text isn't this text.
+fn need_new_texts<S: Store>(store: &mut S, work: &Work) -> Result<(), RunFault> {
+    for text in &work.texts {
+        let path = text.path.as_str();
+        if let Some(found) = find(store, path)?
+            && digest_of_found(store, path, &found)? != Some(text.digest)
+        {
+            return Err(RunFault::OtherText(copy_of(store, path)?));
         }
-        Ok(())
     }
+    Ok(())
+}
 
-    // Fails if the text of a page that changes isn't the one that was read.
-    fn need_old_texts(&mut self) -> Result<(), RunFault> {
-        for leftover in &self.work.cleaned {
-            if let Leftover::Text(file) = leftover
-                && digest_at(&mut self.store, file.path.as_str())? != Some(file.digest)
-            {
-                let page = old_path(&self.work.staged, file.path.as_str());
-                return Err(RunFault::Changed(copy_of(&self.store, page)?));
-            }
+// Fails if the text of a page that changes isn't the one that was read.
+fn need_old_texts<S: Store>(store: &mut S, work: &Work) -> Result<(), RunFault> {
+    for leftover in &work.cleaned {
+        if let Leftover::Text(file) = leftover
+            && digest_at(store, file.path.as_str())? != Some(file.digest)
+        {
+            let page = old_path(&work.staged, file.path.as_str());
+            return Err(RunFault::Changed(copy_of(store, page)?));
         }
-        Ok(())
     }
+    Ok(())
 }
 
 // Whether something may have a staging name during a stage. At the others the run's own directory may be gone already.
@@ -235,21 +252,6 @@ fn old_path<'a>(staged: &'a [Rename], name: &'a str) -> &'a str {
         Some(rename) => rename.from.as_str(),
         None => name,
     }
-}
-
-// Does the actions of a stage.
-fn act_at<S: Store>(
-    store: &mut S,
-    above: &mut Above,
-    work: &Work,
-    written: &[Written],
-    stage: Stage,
-    remarks: &mut Vec<Remark>,
-) -> Result<(), RunFault> {
-    for action in &actions_of(store.alloc(), work, stage)? {
-        act(store, above, work, written, *action, remarks)?;
-    }
-    Ok(())
 }
 
 // Does an action, unless that is done.

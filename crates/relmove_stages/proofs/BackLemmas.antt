@@ -86,7 +86,8 @@ IsAfter-there (first ∷ actions) start backable =
 
 -- ---- back
 
-module _ (actions : List StageAction) (start end : Tree) (backable : AreBackable actions) (whole : IsWholeTree start) (leads : LeadsTo actions (λ tree. tree ≡ end) start) where
+module _ (actions : List StageAction) (start end : Tree) (backable : AreBackable actions) (whole : IsWholeTree start)
+    (leads : LeadsTo actions (λ tree. tree ≡ end) start) where
   ready_at : (i : ℕ) (action : StageAction) (tree : Tree) → slice_get actions i ≡ Some action → IsAfter (take i actions) start tree
       → IsReady action tree
   ready_at = LeadsTo-ready actions (λ tree. tree ≡ end) start leads

@@ -127,7 +127,8 @@ reached-all actions start i tree all reached =
 pub on_stage-none : (actions : List StageAction) (start tree : Tree) → tree ≡ start → IsOnStage actions start tree
 on_stage-none actions start tree is = record { done = 0; within = omega arith; is = is }
 
-module _ (actions : List StageAction) (start : Tree) (stage : IsStage actions start) (i : ℕ) (action : StageAction) (at : slice_get actions i ≡ Some action) where
+module _ (actions : List StageAction) (start : Tree) (stage : IsStage actions start) (i : ℕ) (action : StageAction)
+    (at : slice_get actions i ≡ Some action) where
   -- the action is the next one, or it is done
   pub next_or_done : (tree : Tree) → (reached : IsReached actions start i tree) → (IsReady action tree × (reached.done ≡ i))
       ⊎ (IsDone action tree × (i < reached.done))

@@ -225,11 +225,14 @@ module _ (work : Work) (trees : Trees) (leads : Leads work trees) where
       → IsAfter (stage_actions work stage) (tree_at trees stage) tree → tree ≡ tree_at trees next
   next-leads Writing next tree some is = absurd (cc some)
   next-leads Staging next tree some is =
-      LeadsTo-end (map takes work.staged.items) (λ tree. tree ≡ trees.staged) trees.written leads.stages tree is ∙ ap (tree_at trees) (next_is Making next some)
+      LeadsTo-end (map takes work.staged.items) (λ tree. tree ≡ trees.staged) trees.written leads.stages tree is
+      ∙ ap (tree_at trees) (next_is Making next some)
   next-leads Making next tree some is =
-      LeadsTo-end (map makes work.made.items) (λ tree. tree ≡ trees.made) trees.staged leads.makes tree is ∙ ap (tree_at trees) (next_is Placing next some)
+      LeadsTo-end (map makes work.made.items) (λ tree. tree ≡ trees.made) trees.staged leads.makes tree is
+      ∙ ap (tree_at trees) (next_is Placing next some)
   next-leads Placing next tree some is =
-      LeadsTo-end (map takes work.placed.items) (λ tree. tree ≡ trees.placed) trees.made leads.places tree is ∙ ap (tree_at trees) (next_is Cleaning next some)
+      LeadsTo-end (map takes work.placed.items) (λ tree. tree ≡ trees.placed) trees.made leads.places tree is
+      ∙ ap (tree_at trees) (next_is Cleaning next some)
   next-leads Cleaning next tree some is = absurd (cc some)
   next-leads Unplacing next tree some is =
       back-end (map takes work.placed.items) trees.made trees.placed (renames-backable work.placed.items) made-whole leads.places tree is
@@ -238,14 +241,16 @@ module _ (work : Work) (trees : Trees) (leads : Leads work trees) where
       back-end (map makes work.made.items) trees.staged trees.made (makes-backable work.made.items) staged-whole leads.makes tree is
       ∙ ap (tree_at trees) (next_is Unstaging next some)
   next-leads Unstaging next tree some is =
-      back-end (map takes work.staged.items) trees.written trees.staged (renames-backable work.staged.items) leads.whole leads.stages tree is
+      back-end (map takes work.staged.items) trees.written trees.staged (renames-backable work.staged.items) leads.whole
+      leads.stages tree is
       ∙ ap (tree_at trees) (next_is Erasing next some)
   next-leads Erasing next tree some is = absurd (cc some)
 
   -- the last stage on each way ends the run
   pub end-leads : (stage : Stage) (tree : Tree) → next_stage stage ≡ None
       → IsAfter (stage_actions work stage) (tree_at trees stage) tree → EndsFrom work trees stage tree
-  end-leads Writing tree none is = LeadsTo-end (map removes_part work.texts.items) (λ tree. tree ≡ trees.before) trees.torn leads.parts tree is
+  end-leads Writing tree none is =
+      LeadsTo-end (map removes_part work.texts.items) (λ tree. tree ≡ trees.before) trees.torn leads.parts tree is
   end-leads Staging tree none is = absurd (cc none)
   end-leads Making tree none is = absurd (cc none)
   end-leads Placing tree none is = absurd (cc none)
@@ -253,7 +258,8 @@ module _ (work : Work) (trees : Trees) (leads : Leads work trees) where
   end-leads Unplacing tree none is = absurd (cc none)
   end-leads Unmaking tree none is = absurd (cc none)
   end-leads Unstaging tree none is = absurd (cc none)
-  end-leads Erasing tree none is = LeadsTo-end (map removes work.texts.items) (λ tree. tree ≡ trees.before) trees.written leads.texts tree is
+  end-leads Erasing tree none is =
+      LeadsTo-end (map removes work.texts.items) (λ tree. tree ≡ trees.before) trees.written leads.texts tree is
 
   -- a run may turn back in the middle of a stage
   pub back-leads : (stage next : Stage) (tree : Tree) → stage_back stage ≡ Some next → IsAtStage work trees stage tree
@@ -261,13 +267,15 @@ module _ (work : Work) (trees : Trees) (leads : Leads work trees) where
   back-leads Writing next tree some on = subst (λ (s : Stage). IsAtStage work trees s tree) (next_is Writing next some) on
   back-leads Staging next tree some on =
       subst (λ (s : Stage). IsAtStage work trees s tree) (next_is Unstaging next some)
-      (on_stage-back (map takes work.staged.items) trees.written trees.staged (renames-backable work.staged.items) leads.whole leads.stages tree on)
+      (on_stage-back (map takes work.staged.items) trees.written trees.staged (renames-backable work.staged.items)
+      leads.whole leads.stages tree on)
   back-leads Making next tree some on =
       subst (λ (s : Stage). IsAtStage work trees s tree) (next_is Unmaking next some)
       (on_stage-back (map makes work.made.items) trees.staged trees.made (makes-backable work.made.items) staged-whole leads.makes tree on)
   back-leads Placing next tree some on =
       subst (λ (s : Stage). IsAtStage work trees s tree) (next_is Unplacing next some)
-      (on_stage-back (map takes work.placed.items) trees.made trees.placed (renames-backable work.placed.items) made-whole leads.places tree on)
+      (on_stage-back (map takes work.placed.items) trees.made trees.placed (renames-backable work.placed.items)
+      made-whole leads.places tree on)
   back-leads Cleaning next tree some on = absurd (cc some)
   back-leads Unplacing next tree some on = subst (λ (s : Stage). IsAtStage work trees s tree) (next_is Unplacing next some) on
   back-leads Unmaking next tree some on = subst (λ (s : Stage). IsAtStage work trees s tree) (next_is Unmaking next some) on
@@ -290,7 +298,8 @@ module _ (work : Work) (trees : Trees) (leads : Leads work trees) where
       → CanEnd work stage tree
   complete-leads Writing tree is = tt
   complete-leads Staging tree is =
-      subst (HasOldTexts work) (sym (LeadsTo-end (map takes work.staged.items) (λ tree. tree ≡ trees.staged) trees.written leads.stages tree is))
+      subst (HasOldTexts work)
+      (sym (LeadsTo-end (map takes work.staged.items) (λ tree. tree ≡ trees.staged) trees.written leads.stages tree is))
       leads.old_texts
   complete-leads Making tree is = tt
   complete-leads Placing tree is = tt

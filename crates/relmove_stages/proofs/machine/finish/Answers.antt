@@ -32,7 +32,8 @@ returns-in_err-enter-clause-any_moment g c =
     guards-moment c.args.work.now g.trees (s.state c.args.executor.now) (s.state c.enter.new.self)
     (next-guards c.args.work.now g.trees (c.requires.1.1.0 (guards.leaves.clean before)) c.loop-next.at c.in-Some.next
     (s.state c.args.executor.now) (s.state c.loop-next.executor) (s.state c.enter.new.self) (sym c.in-Some.ensures.next) guards
-    (c.loop-next.invariant.done before) c.enter.ensures.crash (c.enter.ensures.tree clean) (c.enter.ensures.outcome clean)) (g.met.E.Executor.only_now c.args.executor.now) way disk left
+    (c.loop-next.invariant.done before) c.enter.ensures.crash (c.enter.ensures.tree clean) (c.enter.ensures.outcome clean))
+    (g.met.E.Executor.only_now c.args.executor.now) way disk left
 
 pub returns-in_err-enter-clause-cause : goal.returns-in_err-enter-clause-cause
 returns-in_err-enter-clause-cause g c =
@@ -82,7 +83,8 @@ returns-in_err-do_stage-2-clause-any_moment g c =
     (guards-then c.args.work.now g.trees (s.state c.args.executor.now) (s.state c.enter.new.self) (s.state c.do_stage-in-Some.new.executor)
     (next-guards c.args.work.now g.trees (c.requires.1.1.0 (guards.leaves.clean before)) c.loop-next.at c.in-Some.next
     (s.state c.args.executor.now) (s.state c.loop-next.executor) (s.state c.enter.new.self) (sym c.in-Some.ensures.next) guards
-    (c.loop-next.invariant.done before) c.enter.ensures.crash (c.enter.ensures.tree entered) (c.enter.ensures.outcome entered)) two) (g.met.E.Executor.only_now c.args.executor.now) way disk left
+    (c.loop-next.invariant.done before) c.enter.ensures.crash (c.enter.ensures.tree entered) (c.enter.ensures.outcome entered)) two)
+    (g.met.E.Executor.only_now c.args.executor.now) way disk left
 
 pub returns-in_err-do_stage-2-clause-cause : goal.returns-in_err-do_stage-2-clause-cause
 returns-in_err-do_stage-2-clause-cause g c =
@@ -102,7 +104,8 @@ loop-next-preserved g c =
           let entered = two.leaves.clean clean in
           let before = c.enter.ensures.crash.clean entered in
           let guards = c.loop-next.invariant.guards before in
-          guards-then c.args.work.now g.trees (s.state c.args.executor.now) (s.state c.enter.new.self) (s.state c.do_stage-in-Some.new.executor)
+          guards-then c.args.work.now g.trees (s.state c.args.executor.now) (s.state c.enter.new.self)
+          (s.state c.do_stage-in-Some.new.executor)
           (next-guards c.args.work.now g.trees (c.requires.1.1.0 (guards.leaves.clean before)) c.loop-next.at c.in-Some.next
           (s.state c.args.executor.now) (s.state c.loop-next.executor) (s.state c.enter.new.self) (sym c.in-Some.ensures.next) guards
           (c.loop-next.invariant.done before) c.enter.ensures.crash (c.enter.ensures.tree entered) (c.enter.ensures.outcome entered)) two;
@@ -144,7 +147,8 @@ returns-clause-any_moment g c =
     guards-moment c.args.work.now g.trees (s.state c.args.executor.now) (s.state c.end.new.self)
     (end-guards c.args.work.now g.trees (c.requires.1.1.0 (guards.leaves.clean before)) c.loop-next.at
     (s.state c.args.executor.now) (s.state c.loop-next.executor) (s.state c.end.new.self) (sym c.in_default.ensures.next) guards
-    (c.loop-next.invariant.done before) c.end.ensures.crash (c.end.ensures.tree clean) (c.end.ensures.outcome clean)) (g.met.E.Executor.only_now c.args.executor.now) way disk left
+    (c.loop-next.invariant.done before) c.end.ensures.crash (c.end.ensures.tree clean) (c.end.ensures.outcome clean))
+    (g.met.E.Executor.only_now c.args.executor.now) way disk left
 
 pub returns-clause-cause : goal.returns-clause-cause
 returns-clause-cause g c =

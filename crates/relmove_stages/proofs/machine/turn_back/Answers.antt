@@ -21,7 +21,8 @@ returns-in_err-enter-clause-any_moment g c =
     guards-moment c.args.work.now g.trees (s.state c.args.executor.now) (s.state c.enter.new.self)
     (back-guards c.args.work.now g.trees (c.requires.1.1.0 before) c.args.stage c.in-Some.back (s.state c.args.executor.now)
     (s.state c.enter.new.self) (sym c.in-Some.ensures.back) (c.requires.1.1.1.0 before) (c.requires.1.1.1.1 before)
-    c.enter.ensures.crash (c.enter.ensures.tree clean) (c.enter.ensures.outcome clean)) (g.met.E.Executor.only_now c.args.executor.now) way disk left
+    c.enter.ensures.crash (c.enter.ensures.tree clean) (c.enter.ensures.outcome clean))
+    (g.met.E.Executor.only_now c.args.executor.now) way disk left
 
 pub finish-requires-2 : goal.finish-requires-2
 finish-requires-2 g c κs within = (search, (search, (leads, (c.in_ok-enter.ensures.entered, tree))))
@@ -60,7 +61,8 @@ returns-in_err-finish-2-clause-any_moment g c =
     (guards-then c.args.work.now g.trees (s.state c.args.executor.now) (s.state c.enter.new.self) (s.state c.finish-2.new.executor)
     (back-guards c.args.work.now g.trees (c.requires.1.1.0 before) c.args.stage c.in-Some.back (s.state c.args.executor.now)
     (s.state c.enter.new.self) (sym c.in-Some.ensures.back) (c.requires.1.1.1.0 before) (c.requires.1.1.1.1 before)
-    c.enter.ensures.crash (c.enter.ensures.tree entered) (c.enter.ensures.outcome entered)) two) (g.met.E.Executor.only_now c.args.executor.now) way disk left
+    c.enter.ensures.crash (c.enter.ensures.tree entered) (c.enter.ensures.outcome entered)) two)
+    (g.met.E.Executor.only_now c.args.executor.now) way disk left
 
 pub returns-clause-guards : goal.returns-clause-guards
 returns-clause-guards g c =
@@ -85,4 +87,5 @@ returns-clause-any_moment g c =
     (guards-then c.args.work.now g.trees (s.state c.args.executor.now) (s.state c.enter.new.self) (s.state c.finish-2.new.executor)
     (back-guards c.args.work.now g.trees (c.requires.1.1.0 before) c.args.stage c.in-Some.back (s.state c.args.executor.now)
     (s.state c.enter.new.self) (sym c.in-Some.ensures.back) (c.requires.1.1.1.0 before) (c.requires.1.1.1.1 before)
-    c.enter.ensures.crash (c.enter.ensures.tree entered) (c.enter.ensures.outcome entered)) two) (g.met.E.Executor.only_now c.args.executor.now) way disk left
+    c.enter.ensures.crash (c.enter.ensures.tree entered) (c.enter.ensures.outcome entered)) two)
+    (g.met.E.Executor.only_now c.args.executor.now) way disk left
