@@ -85,10 +85,11 @@ pub struct SearchOptions<'a> {
 }
 
 /// Finds where the old paths of moves are written: in pages outside the targets that are read, and in other files with
-/// certain extensions. `pages` has the edits of the tree's pages, in their order. Files that aren't UTF-8 are passed over.
+/// certain extensions. `pages` has the edits of the tree's pages, in their order. What leads to the new path after the
+/// moves, with the file name that it had, isn't among them. Files that aren't UTF-8 are passed over.
 ///
-/// Reads the files that aren't pages, and has one of them in memory at a time. Allocates the names of the old paths and
-/// the places.
+/// Reads the files that aren't pages, and has one of them in memory at a time. Allocates the names of the old paths and of
+/// the new ones, and the places.
 pub fn mentions_of<S: Store>(
     store: &mut S,
     tree: &Tree,
@@ -99,13 +100,16 @@ pub fn mentions_of<S: Store>(
     let alloc = store.alloc();
     let numbers = numbers_of(alloc, moves.moves())?;
     let olds = old_paths(alloc, tree, &numbers)?;
+    let news = new_paths(alloc, moves, &olds)?;
     let names = names_of(alloc, &olds)?;
+    let names_after = names_of(alloc, &news)?;
     let search = Search {
         tree,
         moves,
         made: options.made,
         numbers: &numbers,
         names: &names,
+        names_after: &names_after,
     };
     search.all_places(store, pages, options.excluded)
 }
@@ -149,6 +153,19 @@ fn old_paths(
     Ok(olds)
 }
 
+// The paths after the moves.
+fn new_paths(
+    alloc: Global,
+    moves: &TreeMoves<'_>,
+    olds: &[NormalPath],
+) -> Result<Vec<NormalPath>, AllocError> {
+    let mut news = Vec::with_capacity(alloc, olds.len())?;
+    for old in olds {
+        news.push(moves.path_after(alloc, old.as_relative_path())?)?;
+    }
+    Ok(news)
+}
+
 // The names of paths.
 fn names_of(alloc: Global, olds: &[NormalPath]) -> Result<OldNames<'_>, AllocError> {
     let views = views_of(alloc, olds)?;
@@ -173,6 +190,8 @@ struct Search<'a, 'm, 'p> {
     // The number of each move, by its old path.
     numbers: &'a BTreeMap<String, usize>,
     names: &'a OldNames<'p>,
+    // The names of the paths after the moves.
+    names_after: &'a OldNames<'p>,
 }
 
 impl Search<'_, '_, '_> {
@@ -302,9 +321,56 @@ impl Search<'_, '_, '_> {
         if mentions.is_empty() {
             return Ok(());
         }
+        let wrong = self.wrong_mentions(alloc, path, file, &mentions)?;
         let shown = self.shown_path(alloc, path)?;
         let rule = PathRule::of(path);
-        self.add_mentions(alloc, shown.as_str(), (text, rule), &mentions, found)
+        self.add_mentions(alloc, shown.as_str(), (text, rule), &wrong, found)
+    }
+
+    // The mentions in the text of a file that aren't right after the moves.
+    fn wrong_mentions<'p>(
+        &self,
+        alloc: Global,
+        path: &str,
+        file: FileText<'_>,
+        mentions: &[Mention<'p>],
+    ) -> Result<Vec<Mention<'p>>, AllocError> {
+        let moved = self.moves.path_after(alloc, RelativePath::new(path))?;
+        let file_after = FileText {
+            directory: directory(moved.as_relative_path()),
+            ..file
+        };
+        let after = mentions_in(alloc, self.names_after, file_after)?;
+        let mut rest = after.as_slice();
+        let mut wrong = Vec::new(alloc);
+        for mention in mentions {
+            rest = from_span(rest, mention.span);
+            if !self.is_right(alloc, *mention, rest)? {
+                wrong.push(*mention)?;
+            }
+        }
+        Ok(wrong)
+    }
+
+    // Whether a mention is right after the moves: the first of those that are there then is at its span, and of the path to
+    // which its path moves. That is so, for example, if its file moves along. A path with another file name is written
+    // anew: not every site takes an `index.md` for its directory that takes a `README.md` for it.
+    fn is_right(
+        &self,
+        alloc: Global,
+        mention: Mention<'_>,
+        after: &[Mention<'_>],
+    ) -> Result<bool, AllocError> {
+        let Some(first) = after.first() else {
+            return Ok(false);
+        };
+        if first.span != mention.span {
+            return Ok(false);
+        }
+        let old = mention.path.as_relative_path();
+        let new = self.moves.path_after(alloc, old)?;
+        let new = new.as_relative_path();
+        Ok(new == first.path.as_relative_path() && new.file_name() == old.file_name())
     }
 
     // Adds the places of mentions in the text of a file.
@@ -349,6 +415,23 @@ impl Search<'_, '_, '_> {
         }
         Ok(())
     }
+}
+
+// The mentions from a span on, of some that are in order.
+fn from_span<'a, 'p>(mentions: &'a [Mention<'p>], span: TextSpan) -> &'a [Mention<'p>] {
+    let mut rest = mentions;
+    while let Some((first, others)) = rest.split_first() {
+        if !comes_before(first.span, span) {
+            break;
+        }
+        rest = others;
+    }
+    rest
+}
+
+// Whether a span comes before another: it begins first, or begins there too and ends first.
+fn comes_before(span: TextSpan, other: TextSpan) -> bool {
+    span.start < other.start || (span.start == other.start && span.end < other.end)
 }
 
 // An old path, and the line in which it is written.

@@ -223,6 +223,95 @@ fn names_places_of_each_move(rt: HostRuntime) -> Result<(), Fail> {
     Ok(())
 }
 
+// What a call prints that would move a directory, and change no page.
+const WOULD_MOVE: &str =
+    "0 pages would change, 1 directory would move. Nothing is written: add --write.\n";
+
+// A file in a directory that moves to `g`, its text, and the line that is named.
+const ALONG: [(&str, (&str, &str), Option<usize>); 6] = [
+    ("from its own directory", ("guide/m.yml", "- a.md\n"), None),
+    ("in a page", ("guide/p.md", "Call `cat ./a.md`.\n"), None),
+    ("from the root", ("guide/m.yml", "- guide/a.md\n"), Some(1)),
+    ("from above", ("guide/m.yml", "- ../guide/a.md\n"), Some(1)),
+    (
+        "one of two",
+        ("guide/m.yml", "- a\n- /guide/a\n- a.md\n"),
+        Some(2),
+    ),
+    (
+        "the new path before it",
+        ("guide/m.yml", "- g/a.md\n- a.md\n"),
+        None,
+    ),
+];
+
+#[test]
+fn names_no_place_that_moves_along(rt: HostRuntime) -> Result<(), Fail> {
+    let alloc = rt.alloc();
+    for (case, (path, text), line) in &ALONG {
+        let disk = disk_of(
+            alloc,
+            &[
+                ("guide", None),
+                ("guide/a.md", Some("aa")),
+                (*path, Some(*text)),
+            ],
+        )?;
+        let (status, mut printed) = match line {
+            Some(line) => (
+                Status::LinksLeft,
+                format!(in alloc;
+                    "site/{path}:{line}: guide/a.md is written here, and isn't a link that is read\n"
+                )?,
+            ),
+            None => (Status::Kept, String::new(alloc)),
+        };
+        printed.push_str(WOULD_MOVE)?;
+        let words = ["site", "guide", "g"];
+        answers_in(alloc, case, &disk, &words, (status, printed.as_str(), ""))?;
+    }
+    Ok(())
+}
+
+// Pages that get another name in a directory, and a file that names them.
+const RENAMED: [(&str, &[Place], &[&str], &str); 2] = [
+    (
+        "a swap",
+        &[
+            ("a.md", Some("aa")),
+            ("b.md", Some("bb")),
+            ("m.yml", Some("- a.md\n")),
+        ],
+        &["site", "a.md", "b.md", "b.md", "a.md"],
+        "site/m.yml:1: a.md is written here, and isn't a link that is read\n0 pages would change, 2 files would move. Nothing is written: add --write.\n",
+    ),
+    (
+        "another index page",
+        &[
+            ("guide", None),
+            ("guide/README.md", Some("rr")),
+            ("m.yml", Some("- guide/\n")),
+        ],
+        &["site", "guide/README.md", "guide/index.md"],
+        "site/m.yml:1: guide/README.md is written here, and isn't a link that is read\n0 pages would change, 1 file would move. Nothing is written: add --write.\n",
+    ),
+];
+
+#[test]
+fn names_places_of_pages_with_another_name(rt: HostRuntime) -> Result<(), Fail> {
+    for (case, before, words, printed) in &RENAMED {
+        let disk = disk_of(rt.alloc(), before)?;
+        answers_in(
+            rt.alloc(),
+            case,
+            &disk,
+            words,
+            (Status::LinksLeft, printed, ""),
+        )?;
+    }
+    Ok(())
+}
+
 #[test]
 fn names_files_where_they_are_now(rt: HostRuntime) -> Result<(), Fail> {
     let row = Row {
