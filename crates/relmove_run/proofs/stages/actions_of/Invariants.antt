@@ -3,4 +3,4 @@ use Rattle.relmove_stages.specs.Stages.{stage_actions}
 use Rattle.relmove_run.proofs.stages.actions_of.Given as goal
 
 abbrev pub decreases-loop-action : goal.decreases-loop-action
-decreases-loop-action g l = length (stage_actions l.work l.stage) - l.number
+decreases-loop-action l = length (stage_actions l.work l.stage) - l.number
