@@ -8,6 +8,7 @@ use std::alloc::{AllocError, Global};
 use std::test::Fail;
 
 mod names;
+mod refusals;
 mod spans;
 
 // Normal paths with these texts.

@@ -1,0 +1,5 @@
+//! The names of old paths and their mentions, between two marks. tools/refusals runs each of these tests again and again,
+//! and makes one request between its marks fail after another. So a test accepts a failed allocation as well as the
+//! result; without that script it accepts only the result.
+mod marks;
+mod old_paths;
