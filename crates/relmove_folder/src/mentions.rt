@@ -90,10 +90,10 @@ pub struct SearchOptions<'a> {
 ///
 /// Reads the files that aren't pages, and has one of them in memory at a time. Allocates the names of the old paths and of
 /// the new ones, and the places.
-pub fn mentions_of<S: Store>(
+pub fn mentions_of<'a, S: Store>(
     store: &mut S,
-    tree: &Tree,
-    moves: &TreeMoves<'_>,
+    tree: &'a Tree,
+    moves: &'a TreeMoves<'_>,
     pages: &[MovedSitePage],
     options: SearchOptions<'_>,
 ) -> Result<MentionPlaces, RunFault> {
@@ -304,73 +304,64 @@ impl Search<'_, '_, '_> {
     }
 
     // Adds the places in the text of a file, apart from what was read.
-    fn add_text<'t>(
+    fn add_text(
         &self,
         alloc: Global,
-        path: &'t str,
-        text: &'t str,
-        read: &'t [TextSpan],
+        path: &str,
+        text: &str,
+        read: &[TextSpan],
         found: &mut MentionPlaces,
     ) -> Result<(), AllocError> {
-        let file = FileText {
-            directory: directory(RelativePath::new(path)),
-            text: text.as_bytes(),
-            read,
-        };
-        let mentions = mentions_in(alloc, self.names, file)?;
+        let mentions = mentions_in(alloc, self.names, path, text, read)?;
         if mentions.is_empty() {
             return Ok(());
         }
-        let wrong = self.wrong_mentions(alloc, path, file, &mentions)?;
+        let moved = self.moves.path_after(alloc, RelativePath::new(path))?;
+        let new = moved.as_relative_path().as_str();
+        let after = mentions_in(alloc, self.names_after, new, text, read)?;
+        let wrong = self.wrong_mentions(alloc, &mentions, &after)?;
         let shown = self.shown_path(alloc, path)?;
         let rule = PathRule::of(path);
         self.add_mentions(alloc, shown.as_str(), (text, rule), &wrong, found)
     }
 
-    // The mentions in the text of a file that aren't right after the moves.
+    // The mentions in a text that aren't right after the moves, when the text has these others of new paths.
     fn wrong_mentions<'p>(
         &self,
         alloc: Global,
-        path: &str,
-        file: FileText<'_>,
         mentions: &[Mention<'p>],
+        after: &[Mention<'_>],
     ) -> Result<Vec<Mention<'p>>, AllocError> {
-        let moved = self.moves.path_after(alloc, RelativePath::new(path))?;
-        let file_after = FileText {
-            directory: directory(moved.as_relative_path()),
-            ..file
-        };
-        let after = mentions_in(alloc, self.names_after, file_after)?;
-        let mut rest = after.as_slice();
         let mut wrong = Vec::new(alloc);
+        let mut passed = 0;
         for mention in mentions {
-            rest = from_span(rest, mention.span);
-            if !self.is_right(alloc, *mention, rest)? {
+            passed = count_before(after, passed, mention.span);
+            if !self.is_right(alloc, *mention, after.get(passed))? {
                 wrong.push(*mention)?;
             }
         }
         Ok(wrong)
     }
 
-    // Whether a mention is right after the moves: the first of those that are there then is at its span, and of the path to
-    // which its path moves. That is so, for example, if its file moves along. A path with another file name is written
-    // anew: not every site takes an `index.md` for its directory that takes a `README.md` for it.
+    // Whether a mention is right after the moves: the next one of a new path is at its span, and of the path to which its
+    // path moves. That is so, for example, if its file moves along. A path with another file name is written anew: not
+    // every site takes an `index.md` for its directory that takes a `README.md` for it.
     fn is_right(
         &self,
         alloc: Global,
         mention: Mention<'_>,
-        after: &[Mention<'_>],
+        after: Option<&Mention<'_>>,
     ) -> Result<bool, AllocError> {
-        let Some(first) = after.first() else {
+        let Some(after) = after else {
             return Ok(false);
         };
-        if first.span != mention.span {
+        if after.span != mention.span {
             return Ok(false);
         }
         let old = mention.path.as_relative_path();
-        let new = self.moves.path_after(alloc, old)?;
-        let new = new.as_relative_path();
-        Ok(new == first.path.as_relative_path() && new.file_name() == old.file_name())
+        let moved = self.moves.path_after(alloc, old)?;
+        let new = moved.as_relative_path();
+        Ok(new == after.path.as_relative_path() && new.file_name() == old.file_name())
     }
 
     // Adds the places of mentions in the text of a file.
@@ -417,16 +408,13 @@ impl Search<'_, '_, '_> {
     }
 }
 
-// The mentions from a span on, of some that are in order.
-fn from_span<'a, 'p>(mentions: &'a [Mention<'p>], span: TextSpan) -> &'a [Mention<'p>] {
-    let mut rest = mentions;
-    while let Some((first, others)) = rest.split_first() {
-        if !comes_before(first.span, span) {
-            break;
-        }
-        rest = others;
+// How many mentions come before a span, if so many do. They are in order.
+fn count_before(mentions: &[Mention<'_>], passed: usize, span: TextSpan) -> usize {
+    let mut count = passed;
+    while count < mentions.len() && comes_before(mentions[count].span, span) {
+        count += 1;
     }
-    rest
+    count
 }
 
 // Whether a span comes before another: it begins first, or begins there too and ends first.
@@ -468,15 +456,23 @@ pub fn shown_path(
     Ok(now.into_relative_path_buf().into_string())
 }
 
-// The mentions in the text of a file. What was read is in order, since a plan made it.
-fn mentions_in<'p>(
+// Where the text of a file at a path has one of these names, apart from what was read. That is in order, since a plan made
+// it.
+fn mentions_in<'p, 't>(
     alloc: Global,
     names: &OldNames<'p>,
-    file: FileText<'_>,
+    path: &'t str,
+    text: &'t str,
+    read: &'t [TextSpan],
 ) -> Result<Vec<Mention<'p>>, AllocError> {
-    if !are_spans_in_order(file.read) {
+    if !are_spans_in_order(read) {
         return Ok(Vec::new(alloc));
     }
+    let file = FileText {
+        directory: directory(RelativePath::new(path)),
+        text: text.as_bytes(),
+        read,
+    };
     names.mentions(alloc, file)
 }
 
