@@ -90,28 +90,62 @@ pub struct SearchOptions<'a> {
 ///
 /// Reads the files that aren't pages, and has one of them in memory at a time. Allocates the names of the old paths and of
 /// the new ones, and the places.
-pub fn mentions_of<'a, S: Store>(
+pub fn mentions_of<S: Store>(
     store: &mut S,
-    tree: &'a Tree,
-    moves: &'a TreeMoves<'_>,
+    tree: &Tree,
+    moves: &TreeMoves<'_>,
     pages: &[MovedSitePage],
     options: SearchOptions<'_>,
 ) -> Result<MentionPlaces, RunFault> {
-    let alloc = store.alloc();
-    let numbers = numbers_of(alloc, moves.moves())?;
-    let olds = old_paths(alloc, tree, &numbers)?;
-    let news = new_paths(alloc, moves, &olds)?;
-    let names = names_of(alloc, &olds)?;
-    let names_after = names_of(alloc, &news)?;
+    let paths = MovedPaths::of(store.alloc(), tree, moves)?;
+    search(store, tree, moves, &paths, pages, options)
+}
+
+// Finds where old paths are written.
+fn search<'a, S: Store>(
+    store: &mut S,
+    tree: &'a Tree,
+    moves: &'a TreeMoves<'_>,
+    paths: &'a MovedPaths,
+    pages: &[MovedSitePage],
+    options: SearchOptions<'_>,
+) -> Result<MentionPlaces, RunFault> {
+    let names = names_of(store.alloc(), &paths.olds)?;
+    let names_after = names_of(store.alloc(), &paths.news)?;
     let search = Search {
         tree,
         moves,
         made: options.made,
-        numbers: &numbers,
+        numbers: &paths.numbers,
         names: &names,
         names_after: &names_after,
     };
     search.all_places(store, pages, options.excluded)
+}
+
+// The paths of the entries that move.
+#[derive(Drop)]
+struct MovedPaths {
+    // The number of each move, by its old path.
+    numbers: BTreeMap<String, usize>,
+    // The paths before the moves.
+    olds: Vec<NormalPath>,
+    // Those after them.
+    news: Vec<NormalPath>,
+}
+
+impl MovedPaths {
+    // The paths of the entries of a tree that move.
+    fn of(alloc: Global, tree: &Tree, moves: &TreeMoves<'_>) -> Result<MovedPaths, AllocError> {
+        let numbers = numbers_of(alloc, moves.moves())?;
+        let olds = old_paths(alloc, tree, &numbers)?;
+        let news = new_paths(alloc, moves, &olds)?;
+        Ok(MovedPaths {
+            numbers,
+            olds,
+            news,
+        })
+    }
 }
 
 // The number of each move, by its old path.
