@@ -98,11 +98,11 @@ pub fn mentions_of<S: Store>(
     options: SearchOptions<'_>,
 ) -> Result<MentionPlaces, RunFault> {
     let paths = MovedPaths::of(store.alloc(), tree, moves)?;
-    search(store, tree, moves, &paths, pages, options)
+    search_all(store, tree, moves, &paths, pages, options)
 }
 
 // Finds where old paths are written.
-fn search<'a, S: Store>(
+fn search_all<'a, S: Store>(
     store: &mut S,
     tree: &'a Tree,
     moves: &'a TreeMoves<'_>,
