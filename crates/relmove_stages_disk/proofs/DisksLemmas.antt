@@ -1,0 +1,84 @@
+-- How a disk goes on.
+use Rattle.std.proofs.Common.{◌≡◌, ◌⊎◌, inl, inr, ℕ, zero, suc, ◌+◌, ◌-◌, ◌^◌, ◌<◌, ◌≤◌, List, [], ◌∷◌, ◌++◌, IsTrue, OnErr, IfErr, Result, Ok, Err, drop, length, refl, ap, sym, subst, arith, length-append}
+use Rattle.std.specs.Prelude.{nat_lt}
+use Rattle.std.proofs.lemmas.Bool.Decides.{nat_tests}
+use Rattle.relmove_stages.specs.States.{Disk, IsOneCall}
+use Rattle.relmove_stages_disk.specs.Disks.{GoesOn, Had, HadSince, disk_of, faults_after, only_now, state_of}
+use Rattle.relmove_stages_disk.specs.declared.disk.MemoryDisk.{MemoryDisk}
+use Rattle.relmove_stages_disk.specs.declared.fault.Fault.{Fault}
+use Rattle.relmove_stages_disk.specs.declared.fault.Fault.TheVariants.{Failed, OutOfMemory, Refused}
+use Rattle.relmove_stages_disk.specs.declared.moment.Moment.{Moment}
+
+none_had : (k : ℕ) (disk : Disk) → Had (drop k []) disk → ⊥
+none_had zero disk had = had
+none_had (suc k) disk had = had
+
+-- of a past that got one more moment
+Had-push : (past : List Moment) (last : Moment) (k : ℕ) (disk : Disk) → Had (drop k (past ++ last ∷ [])) disk
+    → Had (drop k past) disk ⊎ (disk ≡ disk_of last)
+Had-push [] last zero disk (inl is) = inr is
+Had-push [] last zero disk (inr none) = absurd none
+Had-push [] last (suc k) disk had = absurd (none_had k disk had)
+Had-push (moment ∷ past) last zero disk (inl is) = inl (inl is)
+Had-push (moment ∷ past) last zero disk (inr had) = elim (Had-push past last zero disk had) [
+  | inl before ↦ inl (inr before)
+  | inr is ↦ inr is
+]
+Had-push (moment ∷ past) last (suc k) disk had = Had-push past last k disk had
+
+HadSince-goes : (old new : MemoryDisk) → GoesOn old.now old.past.items new.now new.past.items → (k : ℕ) (disk : Disk)
+    → HadSince new k disk → HadSince old k disk ⊎ ((disk ≡ disk_of old.now) ⊎ (disk ≡ disk_of new.now))
+HadSince-goes old new goes k disk (inl now) = inr (inr now)
+HadSince-goes old new (inl (same, past)) k disk (inr had) = inl (inr (subst (λ ms. Had (drop k ms) disk) past had))
+HadSince-goes old new (inr past) k disk (inr had) =
+    elim (Had-push old.past.items old.now k disk (subst (λ ms. Had (drop k ms) disk) past had)) [
+      | inl before ↦ inl (inr before)
+      | inr is ↦ inr (inl is)
+    ]
+
+-- a call leaves what might have been left before, what was there or what is there
+pub one_call : (old new : MemoryDisk) → GoesOn old.now old.past.items new.now new.past.items
+    → (new.durable ≡ old.durable) ⊎ (new.durable ≡ length old.past.items) → old.faults ≤ new.faults
+    → IsOneCall (state_of old) (state_of new)
+one_call old new goes durable no_less = record {
+  later = later goes;
+  crash = λ disk left. crash durable disk left;
+  any_moment = λ t disk le left. elim (HadSince-goes old new goes t disk left) [
+    | inl before ↦ inl before
+    | inr is ↦ inr (inr is)
+  ];
+  no_less = no_less;
+  clean = clean;
+}
+  where
+    later : GoesOn old.now old.past.items new.now new.past.items → length old.past.items ≤ length new.past.items
+    later (inl (same, past)) = let count = ap length past in omega (arith, count)
+    later (inr past) =
+        let count = ap length past in
+        let long = length-append old.past.items (old.now ∷ []) in
+        omega (arith, count, long)
+
+    crash : (new.durable ≡ old.durable) ⊎ (new.durable ≡ length old.past.items) → (disk : Disk) → HadSince new new.durable disk
+        → HadSince old old.durable disk ⊎ ((disk ≡ disk_of old.now) ⊎ (disk ≡ disk_of new.now))
+    crash (inl same) disk left = HadSince-goes old new goes old.durable disk (subst (λ k. HadSince new k disk) same left)
+    crash (inr synced) disk left =
+        elim (HadSince-goes old new goes (length old.past.items) disk (subst (λ k. HadSince new k disk) synced left)) [
+          | inl before ↦ inl (only_now old disk before)
+          | inr is ↦ inr is
+        ]
+
+    clean : IsTrue (nat_lt new.faults (2 ^ 64 - 1)) → IsTrue (nat_lt old.faults (2 ^ 64 - 1))
+    clean is = grind (arith, nat_tests)
+
+more_faults : (fault : Fault) (old new : ℕ) → new ≡ faults_after fault old → IsTrue (nat_lt new (2 ^ 64 - 1)) → (fault ≡ Refused → ⊥)
+    → old < new
+more_faults Failed old new is clean not = grind (arith, nat_tests)
+more_faults OutOfMemory old new is clean not = grind (arith, nat_tests)
+more_faults Refused old new is clean not = absurd (not refl)
+
+-- a call that fails is counted, unless it was refused
+pub has_cause : {T : Type 0} (P : Type 0) (outcome : Result T Fault) (old new : ℕ)
+    → IfErr outcome (λ fault. new ≡ faults_after fault old) → (outcome ≡ Err Refused → P → ⊥)
+    → OnErr outcome (IsTrue (nat_lt new (2 ^ 64 - 1)) → P → old < new)
+has_cause P (Ok done) old new counted not = tt
+has_cause P (Err fault) old new counted not = λ clean can. more_faults fault old new counted clean (λ is. not (ap Err is) can)

@@ -1,0 +1,4 @@
+mod PathsLemmas
+mod NodesLemmas
+mod EntriesLemmas
+mod DisksLemmas
