@@ -1,13 +1,18 @@
 -- How a disk goes on.
-use Rattle.std.proofs.Common.{◌≡◌, ◌⊎◌, inl, inr, ℕ, zero, suc, ◌+◌, ◌-◌, ◌^◌, ◌<◌, ◌≤◌, List, [], ◌∷◌, ◌++◌, IsTrue, OnErr, IfErr, Result, Ok, Err, drop, length, refl, ap, sym, subst, arith, length-append}
+use Rattle.std.proofs.Common.{◌≡◌, ◌⊎◌, inl, inr, ℕ, zero, suc, ◌+◌, ◌-◌, ◌^◌, ◌<◌, ◌≤◌, List, [], ◌∷◌, ◌++◌, IsTrue, OnErr, OnOk, IfErr, Result, Vec, Ok, Err, drop, length, refl, ap, sym, subst, arith, length-append}
 use Rattle.std.specs.Prelude.{nat_lt}
 use Rattle.std.proofs.lemmas.Bool.Decides.{nat_tests}
+use Rattle.std.specs.declared.alloc.Global.{Global}
+use Rattle.relmove_stages.specs.StageActions.{Does, IsDone, IsReady, MayDo, StageAction}
 use Rattle.relmove_stages.specs.States.{Disk, IsOneCall}
+use Rattle.relmove_stages_disk.specs.Acting.{Answers, HasActed}
 use Rattle.relmove_stages_disk.specs.Disks.{GoesOn, Had, HadSince, disk_of, faults_after, only_now, state_of}
 use Rattle.relmove_stages_disk.specs.declared.disk.MemoryDisk.{MemoryDisk}
+use Rattle.relmove_stages_disk.specs.declared.entry.Entry.{Entry}
 use Rattle.relmove_stages_disk.specs.declared.fault.Fault.{Fault}
 use Rattle.relmove_stages_disk.specs.declared.fault.Fault.TheVariants.{Failed, OutOfMemory, Refused}
 use Rattle.relmove_stages_disk.specs.declared.moment.Moment.{Moment}
+use Rattle.relmove_trees.specs.FileTrees.{Tree}
 
 none_had : (k : ℕ) (disk : Disk) → Had (drop k []) disk → ⊥
 none_had zero disk had = had
@@ -82,3 +87,48 @@ pub has_cause : {T : Type 0} (P : Type 0) (outcome : Result T Fault) (old new : 
     → OnErr outcome (IsTrue (nat_lt new (2 ^ 64 - 1)) → P → old < new)
 has_cause P (Ok done) old new counted not = tt
 has_cause P (Err fault) old new counted not = λ clean can. more_faults fault old new counted clean (λ is. not (ap Err is) can)
+
+-- ---- what an action leaves
+
+may_do : (action : StageAction) (old new : Tree) → Does action old new → MayDo action old new
+may_do action old new does = record { acts = λ ready. inr (does.acts ready); stays = does.stays }
+
+may_stay : (action : StageAction) (old new : Tree) → new ≡ old → MayDo action old new
+may_stay action old new same = record { acts = λ ready. inl same; stays = λ done. same }
+
+pub HasActed-does : {T : Type 0} (P : Type 0) (action : StageAction) (old new : Tree) (result : Result T Fault)
+    → HasActed action old new result → OnOk result (P → Does action old new)
+HasActed-does P action old new (Ok done) acted = λ holds. acted
+HasActed-does P action old new (Err fault) acted = tt
+
+pub HasActed-may_do : {T : Type 0} (action : StageAction) (old new : Tree) (result : Result T Fault) → HasActed action old new result
+    → MayDo action old new
+HasActed-may_do action old new (Ok done) acted = may_do action old new acted
+HasActed-may_do action old new (Err Failed) acted = acted
+HasActed-may_do action old new (Err OutOfMemory) acted = may_stay action old new acted
+HasActed-may_do action old new (Err Refused) acted = may_stay action old new acted.0
+
+pub HasActed-refused : {T : Type 0} (action : StageAction) (old new : Tree) (result : Result T Fault) → HasActed action old new result
+    → result ≡ Err Refused → IsReady action old ⊎ IsDone action old → ⊥
+HasActed-refused action old new (Ok done) acted is can = cc
+HasActed-refused action old new (Err Failed) acted is can = cc
+HasActed-refused action old new (Err OutOfMemory) acted is can = cc
+HasActed-refused action old new (Err Refused) acted is can = elim can [
+  | inl ready ↦ acted.1.0 ready
+  | inr done ↦ acted.1.1 done
+]
+
+-- a call that may fail after it did all
+pub HasActed-after : {T : Type 0} (action : StageAction) (old new : Tree) (result : Result T Fault) → Does action old new
+    → IfErr result (λ fault. fault ≡ Failed) → HasActed action old new result
+HasActed-after action old new (Ok done) does failed = does
+HasActed-after action old new (Err Failed) does failed = may_do action old new does
+HasActed-after action old new (Err OutOfMemory) does failed = absurd (cc)
+HasActed-after action old new (Err Refused) does failed = absurd (cc)
+
+-- one of which nothing was done
+pub HasActed-err : {T : Type 0} (action : StageAction) (old : Tree) (after : Result (Vec Entry Global) Fault) (fault : Fault)
+    → Answers action old after → after ≡ Err fault → HasActed {T = T} action old old (Err fault)
+HasActed-err action old after Failed answers is = absurd (subst (Answers action old) is answers)
+HasActed-err action old after OutOfMemory answers is = refl
+HasActed-err action old after Refused answers is = (refl, subst (Answers action old) is answers)

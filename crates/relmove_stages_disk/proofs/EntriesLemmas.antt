@@ -1,10 +1,10 @@
 -- The tree of a list of items.
-use Rattle.std.proofs.Common.{Bool, false, ◌≡◌, ◌≢◌, ◌⊎◌, inl, inr, ℕ, ◌+◌, ◌<◌, List, [], ◌∷◌, ◌++◌, Option, Some, None, IsSome, drop, get_or, length, map, refl, sym, ap, ◌∙◌, subst, true}
+use Rattle.std.proofs.Common.{Bool, false, ◌≡◌, ◌≢◌, ◌⊎◌, inl, inr, ℕ, ◌+◌, ◌<◌, ◌≤◌, List, [], ◌∷◌, ◌++◌, Option, Some, None, IsSome, drop, get_or, length, map, refl, sym, ap, ◌∙◌, subst, true}
 use Rattle.std.proofs.Math.Seq.{drop-append_seam}
-use Rattle.std.proofs.lemmas.List.{append-nil, append_assoc, drop_more, map-append}
+use Rattle.std.proofs.lemmas.List.{append-nil, append_assoc, drop_all, drop_more, map-append}
 use Rattle.std.specs.List.{starts_with}
 use Rattle.std.specs.Str.{bytes_eq}
-use Rattle.relmove_stages_disk.proofs.NodesLemmas.{after_rename-nothing, after_rename-with_node, after_rename-with_node_elsewhere, with_node-again, with_node-swap}
+use Rattle.relmove_stages_disk.proofs.NodesLemmas.{after_rename-nothing, after_rename-with_node, after_rename-with_node_elsewhere, with_node-again, with_node-none, with_node-swap}
 use Rattle.relmove_stages_disk.specs.Entries.{Item, entries_tree, item_of, moved, tree_of}
 use Rattle.relmove_stages_disk.specs.declared.entry.Entry.{Entry}
 use Rattle.relmove_trees.proofs.FileTreesLemmas.{not_starts, some_is, some_none, starts, under_or, with_node-at, with_node-elsewhere}
@@ -38,28 +38,33 @@ moved-node from to item = by (starts_with bytes_eq item.place from) refl
     by true is = rw is refl
     by false is = rw is refl
 
-moved-elsewhere : (from to : Place) (item : Item) → ¬ IsUnder item.place from → moved from to item ≡ item
+pub moved-elsewhere : (from to : Place) (item : Item) → ¬ IsUnder item.place from → moved from to item ≡ item
 moved-elsewhere from to item none = rw (not_starts item.place from none) refl
 
--- renamed items have the renamed tree
-pub tree_of-moved : (from to : Place) (items : List Item) → HasNothing (tree_of items) to
-    → tree_of (map (moved from to) items) ≡ after_rename (from, to) (tree_of items)
-tree_of-moved from to [] free = sym (after_rename-nothing from to)
-tree_of-moved from to (item ∷ items) free = by (under_or item.place from)
+same-item : (one other : Item) → one.place ≡ other.place → one.node ≡ other.node → one ≡ other
+same-item one other place node = λ i. record { place = place i; node = node i }
+
+pub moved-is : (from to rest : Place) (item copy : Item) → item.place ≡ from ++ rest → copy.place ≡ to ++ rest → copy.node ≡ item.node
+    → copy ≡ moved from to item
+moved-is from to rest item copy at copy_at node =
+    same-item copy (moved from to item) (copy_at ∙ sym (moved-under from to item rest at)) (node ∙ sym (moved-node from to item))
+
+not_there : (to : Place) (item : Item) (items : List Item) → HasNothing (tree_of (item ∷ items)) to → ¬ IsUnder item.place to
+not_there to item items free (rest, is) = some_none (tree_of (item ∷ items) item.place) here (ap (tree_of (item ∷ items)) is ∙ free rest)
   where
     here : IsSome (tree_of (item ∷ items) item.place)
     here = some_is _ _ (sym (with_node-at item.place (Some item.node) (tree_of items))) refl
 
-    not_to : ¬ IsUnder item.place to
-    not_to (rest, is) = some_none (tree_of (item ∷ items) item.place) here (ap (tree_of (item ∷ items)) is ∙ free rest)
+free-later : (to : Place) (item : Item) (items : List Item) → HasNothing (tree_of (item ∷ items)) to → HasNothing (tree_of items) to
+free-later to item items free rest =
+    sym (with_node-elsewhere item.place (Some item.node) (tree_of items) (to ++ rest)
+    (λ same. not_there to item items free (rest, sym same))) ∙ free rest
 
-    free_after : HasNothing (tree_of items) to
-    free_after rest =
-        sym (with_node-elsewhere item.place (Some item.node) (tree_of items) (to ++ rest) (λ same. not_to (rest, sym same))) ∙ free rest
-
-    later : tree_of (map (moved from to) items) ≡ after_rename (from, to) (tree_of items)
-    later = tree_of-moved from to items free_after
-
+moved-more : (from to : Place) (item : Item) (items : List Item) → HasNothing (tree_of (item ∷ items)) to
+    → tree_of (map (moved from to) items) ≡ after_rename (from, to) (tree_of items)
+    → tree_of (map (moved from to) (item ∷ items)) ≡ after_rename (from, to) (tree_of (item ∷ items))
+moved-more from to item items free later = by (under_or item.place from)
+  where
     by : IsUnder item.place from ⊎ (¬ IsUnder item.place from)
         → tree_of (map (moved from to) (item ∷ items)) ≡ after_rename (from, to) (tree_of (item ∷ items))
     by (inl (rest, is)) =
@@ -71,7 +76,15 @@ tree_of-moved from to (item ∷ items) free = by (under_or item.place from)
     by (inr none) =
         ap (λ (m : Item). with_node m.place (Some m.node) (tree_of (map (moved from to) items))) (moved-elsewhere from to item none)
         ∙ ap (with_node item.place (Some item.node)) later
-        ∙ sym (after_rename-with_node_elsewhere from to item.place (Some item.node) (tree_of items) none not_to)
+        ∙ sym (after_rename-with_node_elsewhere from to item.place (Some item.node) (tree_of items) none
+        (not_there to item items free))
+
+-- renamed items have the renamed tree
+pub tree_of-moved : (from to : Place) (items : List Item) → HasNothing (tree_of items) to
+    → tree_of (map (moved from to) items) ≡ after_rename (from, to) (tree_of items)
+tree_of-moved from to [] free = sym (after_rename-nothing from to)
+tree_of-moved from to (item ∷ items) free =
+    moved-more from to item items free (tree_of-moved from to items (free-later to item items free))
 
 -- ---- entries without those at a place
 
@@ -105,3 +118,10 @@ without-skip place entries copies i entry within is same so_far tail left = so_f
         ∙ sym (ap (λ entries. with_node place None (entries_tree entries)) (rest-more entries i entry within is)
         ∙ ap (λ at. with_node place None (with_node at (Some (item_of entry).node) (entries_tree (drop (i + 1) entries)))) same
         ∙ with_node-again place None (Some (item_of entry).node) (entries_tree (drop (i + 1) entries)))
+
+pub without-all : (place : Place) (entries copies : List Entry) (i : ℕ) → length entries ≤ i → AreWithout place entries i copies
+    → entries_tree copies ≡ with_node place None (entries_tree entries)
+without-all place entries copies i past so_far = ap tree_of (sym (append-nil (map item_of copies))) ∙ so_far [] here
+  where
+    here : tree_of [] ≡ with_node place None (entries_tree (drop i entries))
+    here = sym (ap (λ es. with_node place None (entries_tree es)) (drop_all i entries past) ∙ with_node-none place (tree_of []) refl)

@@ -4,6 +4,7 @@ use Rattle.std.proofs.lemmas.List.{length-append, map-append}
 use Rattle.relative_path.proofs.ForCallers.{SpellThemselves-components, classed-proper}
 use Rattle.relative_path.specs.Prefixing.{StartsWith}
 use Rattle.relative_path.specs.Steps.{SpellThemselves, Step, classed, components, step_text}
+use Rattle.relmove_stages_disk.specs.Entries.{IsBelow}
 use Rattle.relmove_trees.specs.FileTrees.{IsUnder, Place, names_of}
 
 classed-step_text : (cs : List Step) → SpellThemselves cs → map classed (map step_text cs) ≡ cs
@@ -38,18 +39,26 @@ below-differs place n rest same =
     let long_2 = length-append place (n ∷ rest) in
     absurd (omega (arith, long, long_2))
 
--- a path that doesn't begin with another, or is the same, isn't below it
-pub not-below : (text top : List ℕ) → (¬ StartsWith (components text) (components top)) ⊎ (components text ≡ components top)
-    → (n : List ℕ) (rest : Place) → names_of top ++ n ∷ rest ≢ names_of text
-not-below text top (inl none) n rest same = none (under-starts text top (n ∷ rest, sym same))
-not-below text top (inr is) n rest same = below-differs (names_of top) n rest (same ∙ names_of-same text top is)
+-- the same path isn't below
+pub not_below-same : (text top : List ℕ) → components text ≡ components top → ¬ IsBelow (names_of text) (names_of top)
+not_below-same text top same (n, rest, is) = below-differs (names_of top) n rest (sym is ∙ names_of-same text top same)
+
+-- a path that doesn't begin with the other isn't below
+pub not_below-apart : (text top : List ℕ) → ¬ StartsWith (components text) (components top) → ¬ IsBelow (names_of text) (names_of top)
+not_below-apart text top none (n, rest, is) = none (under-starts text top (n ∷ rest, is))
 
 -- one that begins with another, and isn't the same, is below it
-pub is-below : (text top : List ℕ) → StartsWith (components text) (components top) → components text ≢ components top
-    → (n : List ℕ) × (rest : Place) × (names_of text ≡ names_of top ++ n ∷ rest)
-is-below text top starts differ = by (starts-under text top starts).0 (starts-under text top starts).1
+pub is_below : (text top : List ℕ) → StartsWith (components text) (components top) → components text ≢ components top
+    → IsBelow (names_of text) (names_of top)
+is_below text top starts differ = by (starts-under text top starts).0 (starts-under text top starts).1
   where
-    by : (rest : Place) → names_of text ≡ names_of top ++ rest
-        → (n : List ℕ) × (rest : Place) × (names_of text ≡ names_of top ++ n ∷ rest)
+    by : (rest : Place) → names_of text ≡ names_of top ++ rest → IsBelow (names_of text) (names_of top)
     by [] is = absurd (differ (same-names_of text top (is ∙ append-nil (names_of top))))
     by (n ∷ rest) is = (n, rest, is)
+
+pub not_under : (text top : List ℕ) → ¬ StartsWith (components text) (components top) → ¬ IsUnder (names_of text) (names_of top)
+not_under text top none under = none (under-starts text top under)
+
+pub names_of-append : (text top rest : List ℕ) → components text ≡ components top ++ components rest
+    → names_of text ≡ names_of top ++ names_of rest
+names_of-append text top rest is = ap (map step_text) is ∙ map-append step_text (components top) (components rest)

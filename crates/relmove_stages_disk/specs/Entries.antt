@@ -1,5 +1,5 @@
 -- What the entries of a disk say is at each place.
-use Rattle.std.specs.Prelude.{◌⊎◌, ◌<◌, ℕ, List, [], ◌∷◌, ◌++◌, Option, Some, None, drop, length, map, string_bytes, if◌then◌else◌}
+use Rattle.std.specs.Prelude.{◌≡◌, ◌⊎◌, ◌<◌, ℕ, List, [], ◌∷◌, ◌++◌, Option, Some, None, drop, length, map, string_bytes, if◌then◌else◌}
 use Rattle.std.specs.Borrow.{Bor}
 use Rattle.std.specs.List.{starts_with}
 use Rattle.std.specs.Str.{bytes_eq}
@@ -34,6 +34,10 @@ tree_of (item ∷ items) = with_node item.place (Some item.node) (tree_of items)
 -- the tree of entries
 abbrev pub entries_tree : List Entry → Tree
 entries_tree entries = tree_of (map item_of entries)
+
+-- the place is below the top
+abbrev pub IsBelow : Place → Place → Type 0
+IsBelow place top = (n : List ℕ) × (rest : Place) × (place ≡ top ++ n ∷ rest)
 
 -- what is behind a reference, if anything
 abbrev pub node_at : Option (Bor Node) → Option trees.Node

@@ -1,18 +1,18 @@
 //! The entries after an action.
-ghost use Rattle.std.specs.Prelude.{◌≡◌, ◌↔◌, IfOk, IsErrOf, IsTrue};
+ghost use Rattle.std.specs.Prelude.{◌≡◌};
 ghost use Rattle.relative_path.specs.RelativePath.{path_text};
 ghost use Rattle.relmove_trees.specs.FileTrees.{names_of};
-ghost use Rattle.relmove_stages.specs.StageActions.{Clears, Does, IsDone, IsReady, IsText, Makes, Removes, RemovesPart, Takes, action_of};
+ghost use Rattle.relmove_stages.specs.StageActions.{Clears, Makes, Removes, RemovesPart, Takes, action_of};
 ghost use Rattle.relmove_stages_disk.specs.Entries.{entries_tree};
-ghost use Rattle.relmove_stages_disk.specs.declared.fault.Fault.TheVariants.{Refused};
+ghost use Rattle.relmove_stages_disk.specs.Acting.{Answers, IsGivenMemory};
 
 use crate::entries::{can_take, copies_of, find_node, has_below, renamed, with_directory, without};
-use crate::entry::{Entry, has_part, has_text, is_directory};
+use crate::entry::{Entry, has_part, has_text, is_directory, is_nothing};
 use crate::fault::Fault;
 use relative_path::RelativePath;
 use relmove_journal::TextDigest;
 use relmove_stages::Action;
-use std::alloc::Global;
+use std::alloc::{AllocError, Global};
 
 // Returns the entries after an action. What is done already stays.
 pub(crate) fn entries_after(
@@ -20,143 +20,131 @@ pub(crate) fn entries_after(
     entries: &[Entry],
     action: Action<'_>,
 ) -> Result<Vec<Entry>, Fault>
-    ensures does { IfOk result (λ after. Does (action_of action.entry) (entries_tree entries.now) (entries_tree after.items)) }
-    ensures not_ready { IsErrOf result Refused → ¬ IsReady (action_of action.entry) (entries_tree entries.now) }
-    ensures not_done { IsErrOf result Refused → ¬ IsDone (action_of action.entry) (entries_tree entries.now) }
+    ensures { Answers (action_of action.entry) (entries_tree entries.now) result }
 {
     match action {
         Action::Carry(rename) => after_rename(
             alloc,
             entries,
-            RelativePath::new(rename.from.as_str()),
-            RelativePath::new(rename.to.as_str()),
+            rename.from.as_str(),
+            rename.to.as_str(),
         ),
         Action::Unplace(rename) => after_rename(
             alloc,
             entries,
-            RelativePath::new(rename.to.as_str()),
-            RelativePath::new(rename.from.as_str()),
+            rename.to.as_str(),
+            rename.from.as_str(),
         ),
         Action::Unstage(rename) => after_rename(
             alloc,
             entries,
-            RelativePath::new(rename.to.as_str()),
-            RelativePath::new(rename.from.as_str()),
+            rename.to.as_str(),
+            rename.from.as_str(),
         ),
-        Action::Make(path) => after_making(alloc, entries, RelativePath::new(path)),
-        Action::Unmake(path) => after_clearing(alloc, entries, RelativePath::new(path)),
-        Action::RemoveText(text) => after_removal(
-            alloc,
-            entries,
-            RelativePath::new(text.path.as_str()),
-            &text.digest,
-        ),
+        Action::Make(path) => after_making(alloc, entries, path),
+        Action::Unmake(path) => after_clearing(alloc, entries, path),
+        Action::RemoveText(text) => after_removal(alloc, entries, text.path.as_str(), &text.digest),
         Action::RemovePart(_, text) => after_part_removal(
             alloc,
             entries,
-            RelativePath::new(text.path.as_str()),
+            text.path.as_str(),
             &text.digest,
         ),
-        Action::RemoveEmptied(path) => after_clearing(alloc, entries, RelativePath::new(path)),
+        Action::RemoveEmptied(path) => after_clearing(alloc, entries, path),
     }
 }
 
-fn after_rename(
-    alloc: Global,
-    entries: &[Entry],
-    from: RelativePath<'_>,
-    to: RelativePath<'_>,
-) -> Result<Vec<Entry>, Fault>
-    ensures does { IfOk result (λ after. Does (Takes (names_of (path_text from.entry)) (names_of (path_text to.entry)))
-        (entries_tree entries.now) (entries_tree after.items)) }
-    ensures not_ready { IsErrOf result Refused
-        → ¬ IsReady (Takes (names_of (path_text from.entry)) (names_of (path_text to.entry))) (entries_tree entries.now) }
-    ensures not_done { IsErrOf result Refused
-        → ¬ IsDone (Takes (names_of (path_text from.entry)) (names_of (path_text to.entry))) (entries_tree entries.now) }
+// Returns copies, if there was memory for them.
+fn given_memory(copies: Result<Vec<Entry>, AllocError>) -> Result<Vec<Entry>, Fault>
+    ensures { IsGivenMemory copies result }
 {
-    if find_node(entries, from).is_none() && find_node(entries, to).is_some() {
-        return Ok(copies_of(alloc, entries)?);
+    match copies {
+        Ok(copies) => Ok(copies),
+        Err(_) => Err(Fault::OutOfMemory),
     }
-    if find_node(entries, from).is_none() || to.starts_with(from) || !can_take(entries, to) {
+}
+
+fn after_rename(alloc: Global, entries: &[Entry], from: &str, to: &str) -> Result<Vec<Entry>, Fault>
+    ensures { Answers (Takes (names_of from.now) (names_of to.now)) (entries_tree entries.now) result }
+{
+    let from = RelativePath::new(from);
+    let to = RelativePath::new(to);
+    if is_nothing(find_node(entries, from)) {
+        if is_nothing(find_node(entries, to)) {
+            return Err(Fault::Refused);
+        }
+        return given_memory(copies_of(alloc, entries));
+    }
+    if to.starts_with(from) {
         return Err(Fault::Refused);
     }
-    Ok(renamed(alloc, entries, from, to)?)
+    if !can_take(entries, to) {
+        return Err(Fault::Refused);
+    }
+    given_memory(renamed(alloc, entries, from, to))
 }
 
-fn after_making(
-    alloc: Global,
-    entries: &[Entry],
-    path: RelativePath<'_>,
-) -> Result<Vec<Entry>, Fault>
-    ensures does { IfOk result (λ after. Does (Makes (names_of (path_text path.entry))) (entries_tree entries.now) (entries_tree after.items)) }
-    ensures not_ready { IsErrOf result Refused → ¬ IsReady (Makes (names_of (path_text path.entry))) (entries_tree entries.now) }
-    ensures not_done { IsErrOf result Refused → ¬ IsDone (Makes (names_of (path_text path.entry))) (entries_tree entries.now) }
+fn after_making(alloc: Global, entries: &[Entry], path: &str) -> Result<Vec<Entry>, Fault>
+    ensures { Answers (Makes (names_of path.now)) (entries_tree entries.now) result }
 {
+    let path = RelativePath::new(path);
     if is_directory(find_node(entries, path)) {
-        return Ok(copies_of(alloc, entries)?);
+        return given_memory(copies_of(alloc, entries));
     }
     if !can_take(entries, path) {
         return Err(Fault::Refused);
     }
-    Ok(with_directory(alloc, entries, path)?)
+    given_memory(with_directory(alloc, entries, path))
 }
 
-fn after_clearing(
-    alloc: Global,
-    entries: &[Entry],
-    path: RelativePath<'_>,
-) -> Result<Vec<Entry>, Fault>
-    ensures does { IfOk result (λ after. Does (Clears (names_of (path_text path.entry))) (entries_tree entries.now) (entries_tree after.items)) }
-    ensures not_ready { IsErrOf result Refused → ¬ IsReady (Clears (names_of (path_text path.entry))) (entries_tree entries.now) }
-    ensures not_done { IsErrOf result Refused → ¬ IsDone (Clears (names_of (path_text path.entry))) (entries_tree entries.now) }
+fn after_clearing(alloc: Global, entries: &[Entry], path: &str) -> Result<Vec<Entry>, Fault>
+    ensures { Answers (Clears (names_of path.now)) (entries_tree entries.now) result }
 {
-    if has_below(entries, path) || find_node(entries, path).is_none() {
-        return Ok(copies_of(alloc, entries)?);
+    let path = RelativePath::new(path);
+    if has_below(entries, path) {
+        return given_memory(copies_of(alloc, entries));
+    }
+    if is_nothing(find_node(entries, path)) {
+        return given_memory(copies_of(alloc, entries));
     }
     if !is_directory(find_node(entries, path)) {
         return Err(Fault::Refused);
     }
-    Ok(without(alloc, entries, path)?)
+    given_memory(without(alloc, entries, path))
 }
 
 fn after_removal(
     alloc: Global,
     entries: &[Entry],
-    path: RelativePath<'_>,
+    path: &str,
     digest: &TextDigest,
 ) -> Result<Vec<Entry>, Fault>
-    ensures does { IfOk result (λ after. Does (Removes (names_of (path_text path.entry)) digest.now)
-        (entries_tree entries.now) (entries_tree after.items)) }
-    ensures not_ready { IsErrOf result Refused → ¬ IsReady (Removes (names_of (path_text path.entry)) digest.now) (entries_tree entries.now) }
-    ensures not_done { IsErrOf result Refused → ¬ IsDone (Removes (names_of (path_text path.entry)) digest.now) (entries_tree entries.now) }
+    ensures { Answers (Removes (names_of path.now) digest.now) (entries_tree entries.now) result }
 {
-    let node = find_node(entries, path);
-    if node.is_none() {
-        return Ok(copies_of(alloc, entries)?);
+    let path = RelativePath::new(path);
+    if is_nothing(find_node(entries, path)) {
+        return given_memory(copies_of(alloc, entries));
     }
-    if !has_text(node, digest) {
+    if !has_text(find_node(entries, path), digest) {
         return Err(Fault::Refused);
     }
-    Ok(without(alloc, entries, path)?)
+    given_memory(without(alloc, entries, path))
 }
 
 fn after_part_removal(
     alloc: Global,
     entries: &[Entry],
-    path: RelativePath<'_>,
+    path: &str,
     digest: &TextDigest,
 ) -> Result<Vec<Entry>, Fault>
-    ensures does { IfOk result (λ after. Does (RemovesPart (names_of (path_text path.entry)) digest.now)
-        (entries_tree entries.now) (entries_tree after.items)) }
-    ensures not_ready { IsErrOf result Refused → ¬ IsReady (RemovesPart (names_of (path_text path.entry)) digest.now) (entries_tree entries.now) }
-    ensures not_done { IsErrOf result Refused → ¬ IsDone (RemovesPart (names_of (path_text path.entry)) digest.now) (entries_tree entries.now) }
+    ensures { Answers (RemovesPart (names_of path.now) digest.now) (entries_tree entries.now) result }
 {
-    let node = find_node(entries, path);
-    if node.is_none() {
-        return Ok(copies_of(alloc, entries)?);
+    let path = RelativePath::new(path);
+    if is_nothing(find_node(entries, path)) {
+        return given_memory(copies_of(alloc, entries));
     }
-    if !has_part(node, digest) {
+    if !has_part(find_node(entries, path), digest) {
         return Err(Fault::Refused);
     }
-    Ok(without(alloc, entries, path)?)
+    given_memory(without(alloc, entries, path))
 }

@@ -1,10 +1,11 @@
 //! A disk in memory.
 ghost use Rattle.std.specs.Prelude.{◌≡◌, ◌++◌, ◌∷◌, ◌⊎◌, [], IfOk, IfErr, IsErrOf, OnErr, OnOk, length};
 ghost use Rattle.relmove_trees.specs.FileTrees.{names_of};
-ghost use Rattle.relmove_stages.specs.StageActions.{Does, IsDone, IsReady, MayDo, action_of};
+ghost use Rattle.relmove_stages.specs.StageActions.{action_of};
+ghost use Rattle.relmove_stages_disk.specs.Acting.{HasActed};
 ghost use Rattle.relmove_stages_disk.specs.Entries.{entries_tree, node_at};
 ghost use Rattle.relmove_stages_disk.specs.Disks.{GoesOn, disk_of, faults_after, only_now, state_of};
-ghost use Rattle.relmove_stages_disk.specs.declared.fault.Fault.TheVariants.{Refused};
+ghost use Rattle.relmove_stages_disk.specs.declared.fault.Fault.TheVariants.{Failed, Refused};
 
 use crate::actions::entries_after;
 use crate::entries::{copies_of, find_node};
@@ -14,7 +15,7 @@ use crate::moment::Moment;
 use relative_path::RelativePath;
 use relmove_journal::{Stage, Work};
 use relmove_stages::{Action, Executor};
-use std::alloc::{AllocError, Global};
+use std::alloc::Global;
 use std::mem;
 
 /// A disk in memory, with the tree of a run and the stage that its journal says. It keeps what it had at each moment. What an
@@ -118,19 +119,19 @@ fn next_failure(failure: &mut Option<Failure>) -> Option<Failing> {
     None
 }
 
-// Puts what is there next in the place of what is there, which it keeps.
-fn put(now: &mut Moment, past: &mut Vec<Moment>, next: Moment) -> Result<(), AllocError>
-    ensures next { OnOk result (now.new ≡ next) }
-    ensures past { OnOk result (past.new.items ≡ past.old.items ++ now.old ∷ []) }
-    ensures now_err { OnErr result (now.new ≡ now.old) }
-    ensures past_err { OnErr result (past.new.items ≡ past.old.items) }
+// Puts what is there next in the place of what is there, which it keeps, and returns whether there was memory for that.
+fn put(now: &mut Moment, past: &mut Vec<Moment>, next: Moment) -> bool
+    ensures next { IsTrue result → now.new ≡ next }
+    ensures past { IsTrue result → past.new.items ≡ past.old.items ++ now.old ∷ [] }
+    ensures stays { result ≡ false → now.new ≡ now.old }
+    ensures past_stays { result ≡ false → past.new.items ≡ past.old.items }
 {
     let last = mem::replace(now, next);
     match past.push(last) {
-        Ok(()) => Ok(()),
+        Ok(()) => true,
         Err(failed) => {
             *now = failed.value;
-            Err(AllocError)
+            false
         }
     }
 }
@@ -143,25 +144,32 @@ fn try_act(
     action: Action<'_>,
     failing: Option<Failing>,
 ) -> Result<(), Fault>
-    ensures does { OnOk result (Does (action_of action.entry) (disk_of now.old).tree (disk_of now.new).tree) }
-    ensures outcome { MayDo (action_of action.entry) (disk_of now.old).tree (disk_of now.new).tree }
+    ensures acted { HasActed (action_of action.entry) (disk_of now.old).tree (disk_of now.new).tree result }
     ensures journal { now.new.journal ≡ now.old.journal }
     ensures moments { GoesOn now.old past.old.items now.new past.new.items }
-    ensures not_ready { IsErrOf result Refused → ¬ IsReady (action_of action.entry) (disk_of now.old).tree }
-    ensures not_done { IsErrOf result Refused → ¬ IsDone (action_of action.entry) (disk_of now.old).tree }
 {
-    if matches!(failing, Some(Failing::Before)) {
+    if fails_before(failing) {
         return Err(Fault::Failed);
     }
-    let entries = entries_after(alloc, &now.entries, action)?;
+    let entries = match entries_after(alloc, &now.entries, action) {
+        Ok(entries) => entries,
+        Err(fault) => return Err(fault),
+    };
     let journal = now.journal;
-    put(now, past, Moment { entries, journal })?;
+    if !put(now, past, Moment { entries, journal }) {
+        return Err(Fault::OutOfMemory);
+    }
     fails_after(failing)
+}
+
+// Returns whether the call is to fail before it does anything.
+fn fails_before(failing: Option<Failing>) -> bool {
+    matches!(failing, Some(Failing::Before))
 }
 
 // Fails if the call is to fail after it did all.
 fn fails_after(failing: Option<Failing>) -> Result<(), Fault>
-    ensures { IsErrOf result Refused → ⊥ }
+    ensures { IfErr result (λ fault. fault ≡ Failed) }
 {
     if matches!(failing, Some(Failing::After)) {
         return Err(Fault::Failed);
@@ -183,20 +191,24 @@ fn try_put_journal(
     ensures tree { (disk_of now.new).tree ≡ (disk_of now.old).tree }
     ensures moments { GoesOn now.old past.old.items now.new past.new.items }
     ensures durable { (durable.new ≡ durable.old) ⊎ (durable.new ≡ length past.old.items) }
-    ensures not_refused { IsErrOf result Refused → ⊥ }
+    ensures not_refused { IfErr result (λ fault. fault ≡ Refused → ⊥) }
 {
-    if matches!(failing, Some(Failing::Before)) {
+    if fails_before(failing) {
         return Err(Fault::Failed);
     }
+    let Ok(entries) = copies_of(alloc, &now.entries) else {
+        return Err(Fault::OutOfMemory);
+    };
     *durable = past.len();
-    let entries = copies_of(alloc, &now.entries)?;
-    put(now, past, Moment { entries, journal })?;
+    if !put(now, past, Moment { entries, journal }) {
+        return Err(Fault::OutOfMemory);
+    }
     fails_after(failing)
 }
 
-// Changes nothing.
+// Fails if the call is to fail. It changes nothing.
 fn try_stay(failing: Option<Failing>) -> Result<(), Fault>
-    ensures { IsErrOf result Refused → ⊥ }
+    ensures { IfErr result (λ fault. fault ≡ Refused → ⊥) }
 {
     if failing.is_some() {
         return Err(Fault::Failed);
@@ -204,7 +216,18 @@ fn try_stay(failing: Option<Failing>) -> Result<(), Fault>
     Ok(())
 }
 
-// Counts a failure.
+// Counts a failure, up to 2^64 - 1. A refusal is none.
+fn count(faults: &mut u64, fault: Fault)
+    ensures { faults.new ≡ faults_after fault faults.old }
+{
+    match fault {
+        Fault::Failed => *faults = faults.saturating_add(1),
+        Fault::OutOfMemory => *faults = faults.saturating_add(1),
+        Fault::Refused => {}
+    }
+}
+
+// Counts the failure of a call.
 fn counted(faults: &mut u64, outcome: Result<(), Fault>) -> Result<(), Fault>
     ensures outcome { result ≡ outcome }
     ensures ok { OnOk result (faults.new ≡ faults.old) }
@@ -213,9 +236,7 @@ fn counted(faults: &mut u64, outcome: Result<(), Fault>) -> Result<(), Fault>
     match outcome {
         Ok(()) => Ok(()),
         Err(fault) => {
-            if fault != Fault::Refused && *faults < u64::MAX {
-                *faults += 1;
-            }
+            count(faults, fault);
             Err(fault)
         }
     }

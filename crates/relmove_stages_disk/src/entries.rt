@@ -1,11 +1,11 @@
 //! What the entries say is at a path, and entries after a change.
-ghost use Rattle.std.specs.Prelude.{◌≡◌, ◌++◌, ◌∷◌, IfNone, IfOk, IfSome, IsTrue, List, None, OnOk, Some, ℕ, false, map};
+ghost use Rattle.std.specs.Prelude.{◌≡◌, ◌++◌, ◌∷◌, [], IfNone, IfOk, IfSome, IsTrue, List, None, OnOk, Some, ℕ, false, map};
 ghost use Rattle.relative_path.specs.RelativePath.{path_components, path_text};
 ghost use Rattle.relative_path.specs.Steps.{Step, components};
 ghost use Rattle.relmove_trees.specs.FileTrees.{CanTake, Directory, HasBelow, HasNothing, after_rename, names_of, with_node};
-ghost use Rattle.relmove_stages_disk.specs.Entries.{entries_tree, item_of, moved, node_at};
+ghost use Rattle.relmove_stages_disk.specs.Entries.{IsBelow, entries_tree, item_of, moved, node_at};
 
-use crate::entry::{Entry, Node, is_directory};
+use crate::entry::{Entry, Node, is_directory, is_nothing};
 use relative_path::{RelativePath, RelativePathBuf};
 use std::alloc::{AllocError, Global};
 
@@ -21,14 +21,24 @@ pub(crate) fn find_node<'a>(entries: &'a [Entry], path: RelativePath<'_>) -> Opt
     None
 }
 
+// Returns whether a path is below another.
+fn is_below(path: RelativePath<'_>, top: RelativePath<'_>) -> bool
+    ensures below { IsTrue result → IsBelow (names_of (path_text path.entry)) (names_of (path_text top.entry)) }
+    ensures none { result ≡ false → ¬ IsBelow (names_of (path_text path.entry)) (names_of (path_text top.entry)) }
+{
+    if path == top {
+        return false;
+    }
+    path.starts_with(top)
+}
+
 // Returns whether anything is below a path.
 pub(crate) fn has_below(entries: &[Entry], path: RelativePath<'_>) -> bool
     ensures below { IsTrue result → HasBelow (entries_tree entries.now) (names_of (path_text path.entry)) }
     ensures none { result ≡ false → ¬ HasBelow (entries_tree entries.now) (names_of (path_text path.entry)) }
 {
     for entry in entries {
-        let at = entry.path.as_relative_path();
-        if at.starts_with(path) && at != path {
+        if is_below(entry.path.as_relative_path(), path) {
             return true;
         }
     }
@@ -40,9 +50,11 @@ fn parent_of(path: RelativePath<'_>) -> Option<RelativePath<'_>>
     ensures some { IfSome result (λ top. (last : Step) × (path_components path.entry ≡ path_components top ++ last ∷ [])) }
     ensures none { IfNone result (path_components path.entry ≡ []) }
 {
-    let mut components = path.components();
-    components.next_back()?;
-    Some(components.as_relative_path())
+    let mut left = path.components();
+    match left.next_back() {
+        Some(_) => Some(left.as_relative_path()),
+        None => None,
+    }
 }
 
 // Returns whether something can come to a path: nothing is there or below, and above it is a directory.
@@ -53,9 +65,13 @@ pub(crate) fn can_take(entries: &[Entry], path: RelativePath<'_>) -> bool
     let Some(top) = parent_of(path) else {
         return false;
     };
-    is_directory(find_node(entries, top))
-        && find_node(entries, path).is_none()
-        && !has_below(entries, path)
+    if !is_directory(find_node(entries, top)) {
+        return false;
+    }
+    if !is_nothing(find_node(entries, path)) {
+        return false;
+    }
+    !has_below(entries, path)
 }
 
 // Puts copies at the end.
@@ -110,9 +126,10 @@ pub(crate) fn without(
 {
     let mut copies = Vec::new(alloc);
     for entry in entries {
-        if entry.path.as_relative_path() != path {
-            copies.push(entry.copy(alloc)?)?;
+        if entry.path.as_relative_path() == path {
+            continue;
         }
+        copies.push(entry.copy(alloc)?)?;
     }
     Ok(copies)
 }

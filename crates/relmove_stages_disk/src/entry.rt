@@ -1,5 +1,5 @@
 //! A path, and what is there.
-ghost use Rattle.std.specs.Prelude.{◌≡◌, ◌≢◌, ◌↔◌, IfOk, IsTrue, List, Some, false, ℕ};
+ghost use Rattle.std.specs.Prelude.{◌≡◌, ◌≢◌, ◌↔◌, IfOk, IsSome, IsTrue, List, None, Some, false, ℕ};
 ghost use Rattle.relmove_trees.specs.FileTrees.{Directory, File};
 ghost use Rattle.relmove_stages.specs.StageActions.{IsText};
 ghost use Rattle.relmove_stages_disk.specs.Entries.{IsPart, item_of, node_at, node_of};
@@ -50,6 +50,17 @@ impl Entry {
             path: RelativePathBuf::from_text(alloc, self.path.as_relative_path().as_str())?,
             node: self.node.copy(alloc)?,
         })
+    }
+}
+
+// Returns whether there is no node.
+pub(crate) fn is_nothing(node: Option<&Node>) -> bool
+    ensures nothing { IsTrue result → node_at node.entry ≡ None }
+    ensures something { result ≡ false → IsSome (node_at node.entry) }
+{
+    match node {
+        None => true,
+        Some(_) => false,
     }
 }
 

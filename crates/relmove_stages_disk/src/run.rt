@@ -1,6 +1,6 @@
 //! Whole runs on a disk in memory.
-ghost use Rattle.std.specs.Prelude.{◌≡◌, IfOk, IfSome, IsTrue, None, Some};
-ghost use Rattle.relmove_stages.specs.Runs.{IsAllDone, IsAtStage, IsTreeOf, Leads, Trees};
+ghost use Rattle.std.specs.Prelude.{◌≡◌, IfOk, IfSome, IsTrue, None, OnOk, Some};
+ghost use Rattle.relmove_stages.specs.Runs.{IsAllDone, IsAtStage, IsOnTheWay, IsTreeOf, Leads, Trees};
 ghost use Rattle.relmove_stages_disk.specs.Disks.{state_of};
 ghost use Rattle.relmove_stages_disk.specs.Entries.{entries_tree};
 
@@ -27,7 +27,12 @@ pub fn carry_out(alloc: Global, entries: Vec<Entry>, work: &Work) -> Result<Memo
 }
 
 /// Makes a disk with these entries and a run at a stage, and takes the run back. Returns the disk, or `None` if it is too late.
-pub fn take_back(alloc: Global, entries: Vec<Entry>, work: &Work, stage: Stage) -> Result<Option<MemoryDisk>, Fault>
+pub fn take_back(
+    alloc: Global,
+    entries: Vec<Entry>,
+    work: &Work,
+    stage: Stage,
+) -> Result<Option<MemoryDisk>, Fault>
     ghost trees: { Trees }
     // the actions can be done in order
     requires leads { Leads work.now trees }
@@ -43,9 +48,14 @@ pub fn take_back(alloc: Global, entries: Vec<Entry>, work: &Work, stage: Stage) 
     Ok(Some(known(disk)?))
 }
 
-/// Makes a disk with these entries, and carries out a run on it, of which a call fails. Then takes the run back, or if it is too
-/// late, ends it. Returns the disk.
-pub fn carry_out_or_take_back(alloc: Global, entries: Vec<Entry>, work: &Work, failure: Failure) -> Result<MemoryDisk, Fault>
+/// Makes a disk with these entries, and carries out a run on it, of which a call may fail. If it fails, takes the run back, or if
+/// it is too late, ends it. Returns the disk.
+pub fn carry_out_or_take_back(
+    alloc: Global,
+    entries: Vec<Entry>,
+    work: &Work,
+    failure: Option<Failure>,
+) -> Result<MemoryDisk, Fault>
     ghost trees: { Trees }
     // the actions can be done in order
     requires leads { Leads work.now trees }
@@ -55,17 +65,40 @@ pub fn carry_out_or_take_back(alloc: Global, entries: Vec<Entry>, work: &Work, f
     ensures all_or_nothing { IfOk result (λ disk. IsTreeOf work.now trees None (state_of disk).disk.tree) }
 {
     let mut disk = MemoryDisk::new(alloc, entries, Some(Stage::Staging));
-    disk.fail(Some(failure));
-    if finish(&mut disk, work, Stage::Staging).is_ok() {
-        return known(disk);
-    }
-    let Some(stage) = disk.journal() else {
-        return known(disk);
-    };
-    if !turn_back(&mut disk, work, stage)? {
-        finish(&mut disk, work, stage)?;
+    disk.fail(failure);
+    if finish(&mut disk, work, Stage::Staging).is_err() {
+        settle(&mut disk, work)?;
     }
     known(disk)
+}
+
+// Takes a run back that stopped, or if it is too late, ends it.
+fn settle(disk: &mut MemoryDisk, work: &Work) -> Result<(), Fault>
+    ghost trees: { Trees }
+    requires leads { Leads work.now trees }
+    requires way { IsTrue (state_of disk.old).is_clean → IsOnTheWay work.now trees (state_of disk.old).disk }
+    ensures { OnOk result (IsTrue (state_of disk.new).is_clean → IsTreeOf work.now trees None (state_of disk.new).disk.tree) }
+{
+    let Some(stage) = disk.journal() else {
+        return Ok(());
+    };
+    if turn_back(disk, work, stage)? {
+        return Ok(());
+    }
+    end(disk, work)
+}
+
+// Ends a run that stopped.
+fn end(disk: &mut MemoryDisk, work: &Work) -> Result<(), Fault>
+    ghost trees: { Trees }
+    requires leads { Leads work.now trees }
+    requires way { IsTrue (state_of disk.old).is_clean → IsOnTheWay work.now trees (state_of disk.old).disk }
+    ensures { OnOk result (IsTrue (state_of disk.new).is_clean → IsTreeOf work.now trees None (state_of disk.new).disk.tree) }
+{
+    let Some(stage) = disk.journal() else {
+        return Ok(());
+    };
+    finish(disk, work, stage)
 }
 
 // Returns the disk, if its failures still count.
