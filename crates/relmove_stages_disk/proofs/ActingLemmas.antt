@@ -12,7 +12,7 @@ use Rattle.relmove_stages_disk.specs.declared.entry.Entry.{Entry}
 use Rattle.relmove_stages_disk.specs.declared.fault.Fault.{Fault}
 use Rattle.relmove_stages_disk.specs.declared.fault.Fault.TheVariants.{OutOfMemory, Refused}
 use Rattle.relmove_trees.proofs.FileTreesLemmas.{some_is, some_none}
-use Rattle.relmove_trees.specs.FileTrees.{CanTake, Directory, File, HasBelow, IsUnder, Place, Tree, after_rename, with_node}
+use Rattle.relmove_trees.specs.FileTrees.{CanTake, Directory, File, HasBelow, IsUnder, Place, Tree, after_rename, names_of, with_node}
 
 -- copies that have the tree after the action
 pub changed : (action : StageAction) (old new : Tree) (copies : Result (Vec Entry Global) AllocError)
@@ -32,6 +32,13 @@ directory-some : (tree : Tree) (place : Place) → tree place ≡ Some Directory
 directory-some tree place is = some_is (Some Directory) (tree place) (sym is) refl
 
 -- ---- a rename
+
+-- paths that are other views of the same texts
+pub at_paths : (from from_2 to to_2 : List ℕ) (tree : Tree) (result : Result (Vec Entry Global) Fault) → from ≡ from_2 → to ≡ to_2
+    → Answers (Takes (names_of from) (names_of to)) tree result → Answers (Takes (names_of from_2) (names_of to_2)) tree result
+at_paths from from_2 to to_2 tree result same same_2 answers =
+    subst (λ text. Answers (Takes (names_of text) (names_of to_2)) tree result) same
+    (subst (λ text. Answers (Takes (names_of from) (names_of text)) tree result) same_2 answers)
 
 pub rename-gone : (old : Tree) (from to : Place) → old from ≡ None → Does (Takes from to) old old
 rename-gone old from to none = record {

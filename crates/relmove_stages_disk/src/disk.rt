@@ -81,19 +81,6 @@ impl MemoryDisk {
         self.faults < u64::MAX
     }
 
-    /// What it had at the moments that a loss of power may leave, and has now, which is the last.
-    pub fn may_leave(&self, number: usize) -> Option<&Moment>
-        ensures may_leave { IfSome result (λ moment. (state_of self.now).may_leave (disk_of moment.now)) }
-    {
-        if self.durable <= self.past.len() && number < self.past.len() - self.durable {
-            return self.past.get(self.durable + number);
-        }
-        if self.durable <= self.past.len() && number == self.past.len() - self.durable {
-            return Some(&self.now);
-        }
-        None
-    }
-
     /// The stage that the journal says.
     pub fn journal(&self) -> Option<Stage>
         // the stage that the journal says

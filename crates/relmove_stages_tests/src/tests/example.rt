@@ -105,12 +105,14 @@ fn renames(alloc: Global, pairs: &[(&str, &str)]) -> Result<Vec<Rename>, AllocEr
 /// What the run does.
 pub fn work(alloc: Global) -> Result<Work, AllocError> {
     let mut work = Work::new(alloc);
-    work.texts.push(text_file(alloc, ".relmove-7", "[a](../../b)")?)?;
+    work.texts
+        .push(text_file(alloc, ".relmove-7", "[a](../../b)")?)?;
     work.staged = renames(alloc, STAGED)?;
     work.made.push(String::from_str(alloc, "h")?)?;
     work.placed = renames(alloc, PLACED)?;
     work.cleaned.push(Leftover::Text(text_file(alloc, ".relmove-5", "[a](../a)")?))?;
-    work.cleaned.push(Leftover::Directory(String::from_str(alloc, "f")?))?;
+    work.cleaned
+        .push(Leftover::Directory(String::from_str(alloc, "f")?))?;
     Ok(work)
 }
 

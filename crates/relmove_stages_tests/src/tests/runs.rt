@@ -34,7 +34,11 @@ fn goes_on(rt: &impl Abort, alloc: Global, work: &Work, failure: Failure) -> Res
     let mut trial = stopped(alloc, work, failure)?;
     end(&mut trial, work)?;
     assert!(rt; has(&trial.disk, AFTER), "after {failure:?} the run ends");
-    assert_eq!(rt; trial.disk.journal(), None, "after {failure:?} no journal is left");
+    assert_eq!(rt;
+        trial.disk.journal(),
+        None,
+        "after {failure:?} no journal is left"
+    );
     Ok(())
 }
 
@@ -51,8 +55,92 @@ fn carries_out(rt: HostRuntime) -> Result<(), Fail> {
 fn goes_on_after_each_call(rt: HostRuntime) -> Result<(), Fail> {
     let work = work(rt.alloc())?;
     for calls in 0..CALLS {
-        goes_on(&rt, rt.alloc(), &work, Failure { calls, failing: Failing::Before })?;
-        goes_on(&rt, rt.alloc(), &work, Failure { calls, failing: Failing::After })?;
+        goes_on(
+            &rt,
+            rt.alloc(),
+            &work,
+            Failure {
+                calls,
+                failing: Failing::Before,
+            },
+        )?;
+        goes_on(
+            &rt,
+            rt.alloc(),
+            &work,
+            Failure {
+                calls,
+                failing: Failing::After,
+            },
+        )?;
     }
+    Ok(())
+}
+
+// Takes a run back that stopped. If it is too late, ends it. Returns the tree that is to be there then.
+fn take_back(trial: &mut Trial, work: &Work) -> Result<&'static [Place], Fault> {
+    let Some(stage) = trial.disk.journal() else {
+        return Ok(AFTER);
+    };
+    if turn_back(trial, work, stage)? {
+        return Ok(BEFORE);
+    }
+    end(trial, work)?;
+    Ok(AFTER)
+}
+
+fn turns_back(rt: &impl Abort, alloc: Global, work: &Work, failure: Failure) -> Result<(), Fault> {
+    let mut trial = stopped(alloc, work, failure)?;
+    let tree = take_back(&mut trial, work)?;
+    assert!(rt;
+        has(&trial.disk, tree),
+        "after {failure:?} the run is taken back, or it ends"
+    );
+    assert_eq!(rt;
+        trial.disk.journal(),
+        None,
+        "after {failure:?} no journal is left"
+    );
+    Ok(())
+}
+
+#[test]
+fn turns_back_after_each_call(rt: HostRuntime) -> Result<(), Fail> {
+    let work = work(rt.alloc())?;
+    for calls in 0..CALLS {
+        turns_back(
+            &rt,
+            rt.alloc(),
+            &work,
+            Failure {
+                calls,
+                failing: Failing::Before,
+            },
+        )?;
+        turns_back(
+            &rt,
+            rt.alloc(),
+            &work,
+            Failure {
+                calls,
+                failing: Failing::After,
+            },
+        )?;
+    }
+    Ok(())
+}
+
+#[test]
+fn takes_back_what_is_torn(rt: HostRuntime) -> Result<(), Fail> {
+    let work = work(rt.alloc())?;
+    let mut trial = trial(rt.alloc(), TORN, Stage::Writing)?;
+    assert!(rt;
+        turn_back(&mut trial, &work, Stage::Writing)?,
+        "nothing has moved"
+    );
+    assert!(rt;
+        has(&trial.disk, BEFORE),
+        "the part of the new text is gone"
+    );
     Ok(())
 }
