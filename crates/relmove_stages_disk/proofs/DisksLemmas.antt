@@ -1,12 +1,12 @@
 -- How a disk goes on.
-use Rattle.std.proofs.Common.{◌≡◌, ◌⊎◌, inl, inr, ℕ, zero, suc, ◌+◌, ◌-◌, ◌^◌, ◌<◌, ◌≤◌, List, [], ◌∷◌, ◌++◌, IsTrue, OnErr, OnOk, IfErr, Result, Vec, Ok, Err, drop, length, refl, ap, sym, subst, arith, length-append}
+use Rattle.std.proofs.Common.{Bool, true, false, true≢false, cond, ◌∙◌, ◌≡◌, ◌⊎◌, inl, inr, ℕ, zero, suc, ◌+◌, ◌-◌, ◌^◌, ◌<◌, ◌≤◌, List, [], ◌∷◌, ◌++◌, IsTrue, OnErr, OnOk, IfErr, Result, Vec, Ok, Err, drop, length, refl, ap, sym, subst, arith, length-append}
 use Rattle.std.specs.Prelude.{nat_lt}
 use Rattle.std.proofs.lemmas.Bool.Decides.{nat_tests}
 use Rattle.std.specs.declared.alloc.Global.{Global}
 use Rattle.relmove_stages.specs.StageActions.{Does, IsDone, IsReady, MayDo, StageAction}
 use Rattle.relmove_stages.specs.States.{Disk, IsOneCall}
 use Rattle.relmove_stages_disk.specs.Acting.{Answers, HasActed}
-use Rattle.relmove_stages_disk.specs.Disks.{GoesOn, Had, HadSince, disk_of, faults_after, only_now, state_of}
+use Rattle.relmove_stages_disk.specs.Disks.{GoesOn, Had, count_up, HadSince, disk_of, faults_after, only_now, state_of}
 use Rattle.relmove_stages_disk.specs.declared.disk.MemoryDisk.{MemoryDisk}
 use Rattle.relmove_stages_disk.specs.declared.entry.Entry.{Entry}
 use Rattle.relmove_stages_disk.specs.declared.fault.Fault.{Fault}
@@ -75,11 +75,47 @@ one_call old new goes durable no_less = record {
     clean : IsTrue (nat_lt new.faults (2 ^ 64 - 1)) → IsTrue (nat_lt old.faults (2 ^ 64 - 1))
     clean is = grind (arith, nat_tests)
 
+count_up-more : (old new : ℕ) → new ≡ count_up old → IsTrue (nat_lt new (2 ^ 64 - 1)) → old < new
+count_up-more old new is clean = by (nat_lt old (2 ^ 64 - 1)) refl
+  where
+    by : (b : Bool) → nat_lt old (2 ^ 64 - 1) ≡ b → old < new
+    by true less = let one : new ≡ old + 1 = is ∙ ap (λ b. cond b (old + 1) old) less in omega (arith, one)
+    by false more =
+        let same : new ≡ old = is ∙ ap (λ b. cond b (old + 1) old) more in
+        absurd (true≢false (sym clean ∙ ap (λ n. nat_lt n (2 ^ 64 - 1)) same ∙ more))
+
+count_up-no_less : (old new : ℕ) → new ≡ count_up old → old ≤ new
+count_up-no_less old new is = by (nat_lt old (2 ^ 64 - 1)) refl
+  where
+    by : (b : Bool) → nat_lt old (2 ^ 64 - 1) ≡ b → old ≤ new
+    by true less = let one : new ≡ old + 1 = is ∙ ap (λ b. cond b (old + 1) old) less in omega (arith, one)
+    by false more = let same : new ≡ old = is ∙ ap (λ b. cond b (old + 1) old) more in omega (arith, same)
+
 more_faults : (fault : Fault) (old new : ℕ) → new ≡ faults_after fault old → IsTrue (nat_lt new (2 ^ 64 - 1)) → (fault ≡ Refused → ⊥)
     → old < new
-more_faults Failed old new is clean not = grind (arith, nat_tests)
-more_faults OutOfMemory old new is clean not = grind (arith, nat_tests)
+more_faults Failed old new is clean not = count_up-more old new is clean
+more_faults OutOfMemory old new is clean not = count_up-more old new is clean
 more_faults Refused old new is clean not = absurd (not refl)
+
+-- failures don't get fewer
+pub no_less : {T : Type 0} (outcome : Result T Fault) (old new : ℕ) → OnOk outcome (new ≡ old)
+    → IfErr outcome (λ fault. new ≡ faults_after fault old) → old ≤ new
+no_less (Ok done) old new same counted = omega (arith, same)
+no_less (Err Failed) old new same counted = count_up-no_less old new counted
+no_less (Err OutOfMemory) old new same counted = count_up-no_less old new counted
+no_less (Err Refused) old new same counted = omega (arith, counted)
+
+-- a result that isn't a refusal
+pub not_refused : {T : Type 0} (outcome : Result T Fault) → IfErr outcome (λ fault. fault ≡ Refused → ⊥) → outcome ≡ Err Refused → ⊥
+not_refused (Ok done) not is = cc
+not_refused (Err fault) not is = let same : fault ≡ Refused = cc is in not same
+
+pub ok_then : {T : Type 0} (P Q : Type 0) (outcome result : Result T Fault) → result ≡ outcome → OnOk outcome Q → OnOk result (P → Q)
+ok_then {T = T} P Q outcome result same holds = subst (λ r. OnOk r (P → Q)) (sym same) (by outcome holds)
+  where
+    by : (outcome : Result T Fault) → OnOk outcome Q → OnOk outcome (P → Q)
+    by (Ok done) holds = λ p. holds
+    by (Err fault) holds = tt
 
 -- a call that fails is counted, unless it was refused
 pub has_cause : {T : Type 0} (P : Type 0) (outcome : Result T Fault) (old new : ℕ)
@@ -87,6 +123,12 @@ pub has_cause : {T : Type 0} (P : Type 0) (outcome : Result T Fault) (old new : 
     → OnErr outcome (IsTrue (nat_lt new (2 ^ 64 - 1)) → P → old < new)
 has_cause P (Ok done) old new counted not = tt
 has_cause P (Err fault) old new counted not = λ clean can. more_faults fault old new counted clean (λ is. not (ap Err is) can)
+
+pub has_cause-always : {T : Type 0} (outcome : Result T Fault) (old new : ℕ)
+    → IfErr outcome (λ fault. new ≡ faults_after fault old) → (outcome ≡ Err Refused → ⊥)
+    → OnErr outcome (IsTrue (nat_lt new (2 ^ 64 - 1)) → old < new)
+has_cause-always (Ok done) old new counted not = tt
+has_cause-always (Err fault) old new counted not = λ clean. more_faults fault old new counted clean (λ is. not (ap Err is))
 
 -- ---- what an action leaves
 
@@ -117,18 +159,3 @@ HasActed-refused action old new (Err Refused) acted is can = elim can [
   | inl ready ↦ acted.1.0 ready
   | inr done ↦ acted.1.1 done
 ]
-
--- a call that may fail after it did all
-pub HasActed-after : {T : Type 0} (action : StageAction) (old new : Tree) (result : Result T Fault) → Does action old new
-    → IfErr result (λ fault. fault ≡ Failed) → HasActed action old new result
-HasActed-after action old new (Ok done) does failed = does
-HasActed-after action old new (Err Failed) does failed = may_do action old new does
-HasActed-after action old new (Err OutOfMemory) does failed = absurd (cc)
-HasActed-after action old new (Err Refused) does failed = absurd (cc)
-
--- one of which nothing was done
-pub HasActed-err : {T : Type 0} (action : StageAction) (old : Tree) (after : Result (Vec Entry Global) Fault) (fault : Fault)
-    → Answers action old after → after ≡ Err fault → HasActed {T = T} action old old (Err fault)
-HasActed-err action old after Failed answers is = absurd (subst (Answers action old) is answers)
-HasActed-err action old after OutOfMemory answers is = refl
-HasActed-err action old after Refused answers is = (refl, subst (Answers action old) is answers)

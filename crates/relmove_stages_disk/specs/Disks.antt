@@ -1,5 +1,5 @@
 -- What a disk in memory has, and what a crash may leave of it.
-use Rattle.std.specs.Prelude.{◌≡◌, ◌⊎◌, ◌+◌, ◌-◌, ◌^◌, ℕ, List, [], ◌∷◌, ◌++◌, Result, Ok, Err, drop, length, min, nat_lt}
+use Rattle.std.specs.Prelude.{◌≡◌, ◌⊎◌, ◌+◌, ◌-◌, ◌^◌, ℕ, List, [], ◌∷◌, ◌++◌, drop, if◌then◌else◌, length, nat_lt}
 use mathlib.Core.Logic.{inl, inr}
 use Rattle.relmove_stages.specs.States.{Disk, State}
 use Rattle.relmove_stages_disk.specs.Entries.{entries_tree}
@@ -33,10 +33,14 @@ state_of memory = record {
   is_clean = nat_lt memory.faults (2 ^ 64 - 1);
 }
 
+-- one more, up to 2 ^ 64 - 1
+abbrev pub count_up : ℕ → ℕ
+count_up faults = if nat_lt faults (2 ^ 64 - 1) then faults + 1 else faults
+
 -- a failure counts, and a refusal doesn't
 abbrev pub faults_after : Fault → ℕ → ℕ
-faults_after Failed faults = min (faults + 1) (2 ^ 64 - 1)
-faults_after OutOfMemory faults = min (faults + 1) (2 ^ 64 - 1)
+faults_after Failed faults = count_up faults
+faults_after OutOfMemory faults = count_up faults
 faults_after Refused faults = faults
 
 -- nothing changed, or the disk as it was is the last of the past

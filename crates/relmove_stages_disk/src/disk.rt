@@ -1,10 +1,10 @@
 //! A disk in memory.
-ghost use Rattle.std.specs.Prelude.{◌≡◌, ◌++◌, ◌∷◌, ◌⊎◌, [], IfOk, IfErr, IsErrOf, OnErr, OnOk, length};
+ghost use Rattle.std.specs.Prelude.{◌≡◌, ◌++◌, ◌∷◌, ◌⊎◌, [], IfErr, IsTrue, OnOk, false, length};
 ghost use Rattle.relmove_trees.specs.FileTrees.{names_of};
 ghost use Rattle.relmove_stages.specs.StageActions.{action_of};
 ghost use Rattle.relmove_stages_disk.specs.Acting.{HasActed};
 ghost use Rattle.relmove_stages_disk.specs.Entries.{entries_tree, node_at};
-ghost use Rattle.relmove_stages_disk.specs.Disks.{GoesOn, disk_of, faults_after, only_now, state_of};
+ghost use Rattle.relmove_stages_disk.specs.Disks.{GoesOn, count_up, disk_of, faults_after, only_now, state_of};
 ghost use Rattle.relmove_stages_disk.specs.declared.fault.Fault.TheVariants.{Failed, Refused};
 
 use crate::actions::entries_after;
@@ -51,8 +51,8 @@ impl MemoryDisk {
 
     /// Has one of the next calls fail, or none.
     pub fn fail(&mut self, failure: Option<Failure>)
-        // what is known of the disk stays
-        ensures same { state_of self.new ≡ state_of self.old }
+        // the disk stays
+        ensures same { (state_of self.new).disk ≡ (state_of self.old).disk }
     {
         self.failure = failure;
     }
@@ -60,7 +60,7 @@ impl MemoryDisk {
     /// What is at a path.
     pub fn node_at(&self, path: &str) -> Option<&Node>
         // what the tree has at the names of the path
-        ensures node { node_at result ≡ (state_of self.now).disk.tree (names_of path.now) }
+        ensures node { node_at result ≡ (state_of self.entry.now).disk.tree (names_of path.entry.now) }
     {
         find_node(&self.now.entries, RelativePath::new(path))
     }
@@ -68,7 +68,7 @@ impl MemoryDisk {
     /// The entries, in no order.
     pub fn entries(&self) -> &[Entry]
         // the tree is that of the entries
-        ensures tree { entries_tree result.now ≡ (state_of self.now).disk.tree }
+        ensures tree { entries_tree result.now ≡ (state_of self.entry.now).disk.tree }
     {
         &self.now.entries
     }
@@ -76,7 +76,7 @@ impl MemoryDisk {
     /// Returns whether its failures still count. Fewer than 2^64 - 1 do.
     pub fn is_clean(&self) -> bool
         // whether anything is known of the disk
-        ensures clean { result ≡ (state_of self.now).is_clean }
+        ensures clean { result ≡ (state_of self.entry.now).is_clean }
     {
         self.faults < u64::MAX
     }
@@ -84,7 +84,7 @@ impl MemoryDisk {
     /// The stage that the journal says.
     pub fn journal(&self) -> Option<Stage>
         // the stage that the journal says
-        ensures journal { result ≡ (state_of self.now).disk.journal }
+        ensures journal { result ≡ (state_of self.entry.now).disk.journal }
     {
         self.now.journal
     }
@@ -203,13 +203,22 @@ fn try_stay(failing: Option<Failing>) -> Result<(), Fault>
     Ok(())
 }
 
-// Counts a failure, up to 2^64 - 1. A refusal is none.
+// Counts a failure, up to 2^64 - 1.
+fn count_one(faults: &mut u64)
+    ensures { faults.new ≡ count_up faults.old }
+{
+    if *faults < u64::MAX {
+        *faults += 1;
+    }
+}
+
+// Counts a failure. A refusal is none.
 fn count(faults: &mut u64, fault: Fault)
     ensures { faults.new ≡ faults_after fault faults.old }
 {
     match fault {
-        Fault::Failed => *faults = faults.saturating_add(1),
-        Fault::OutOfMemory => *faults = faults.saturating_add(1),
+        Fault::Failed => count_one(faults),
+        Fault::OutOfMemory => count_one(faults),
         Fault::Refused => {}
     }
 }

@@ -4,7 +4,6 @@
 //! A module uses modules of the layers below.
 //!
 //! ```text
-//! whole runs         run
 //! the disk           disk
 //! one action         actions
 //! what is where      entries    moment
@@ -16,7 +15,6 @@ pub use self::disk::MemoryDisk;
 pub use self::entry::{Entry, Node};
 pub use self::fault::{Failing, Failure, Fault};
 pub use self::moment::Moment;
-pub use self::run::{carry_out, carry_out_or_take_back, take_back};
 
 mod actions;
 mod disk;
@@ -24,4 +22,3 @@ mod entries;
 mod entry;
 mod fault;
 mod moment;
-mod run;
