@@ -1,0 +1,6 @@
+mod PathsLemmas
+mod NodesLemmas
+mod EntriesLemmas
+mod LookingLemmas
+mod ActingLemmas
+mod DisksLemmas

@@ -1,0 +1,58 @@
+-- What a disk in memory has, and what a crash may leave of it.
+use Rattle.std.specs.Prelude.{◌≡◌, ◌⊎◌, ◌+◌, ◌-◌, ◌^◌, ℕ, List, [], ◌∷◌, ◌++◌, drop, if◌then◌else◌, length, nat_lt}
+use mathlib.Core.Logic.{inl, inr}
+use Rattle.relmove_stages.specs.States.{Disk, State}
+use Rattle.relmove_stages_disk.specs.Entries.{entries_tree}
+use Rattle.relmove_stages_disk.specs.declared.disk.MemoryDisk.{MemoryDisk}
+use Rattle.relmove_stages_disk.specs.declared.fault.Fault.{Fault}
+use Rattle.relmove_stages_disk.specs.declared.fault.Fault.TheVariants.{Failed, OutOfMemory, Refused}
+use Rattle.relmove_stages_disk.specs.declared.moment.Moment.{Moment}
+
+-- the journal and the tree at a moment
+abbrev pub disk_of : Moment → Disk
+disk_of moment = record { journal = moment.journal; tree = entries_tree moment.entries.items }
+
+-- one of the moments had this
+abbrev pub Had : List Moment → Disk → Type 0
+Had [] disk = ⊥
+Had (moment ∷ moments) disk = (disk ≡ disk_of moment) ⊎ Had moments disk
+
+-- it has this now, or had it at one of the moments after the first ones
+abbrev pub HadSince : MemoryDisk → ℕ → Disk → Type 0
+HadSince memory first disk = (disk ≡ disk_of memory.now) ⊎ Had (drop first memory.past.items) disk
+
+-- What is known of the disk. A crash leaves what it has, or had at a moment that isn't yet lost. Its failures are counted up to
+-- 2 ^ 64 - 1. From then on nothing is known.
+abbrev pub state_of : MemoryDisk → State
+state_of memory = record {
+  disk = disk_of memory.now;
+  may_leave = HadSince memory memory.durable;
+  moment = length memory.past.items;
+  left_since = HadSince memory;
+  faults = memory.faults;
+  is_clean = nat_lt memory.faults (2 ^ 64 - 1);
+}
+
+-- one more, up to 2 ^ 64 - 1
+abbrev pub count_up : ℕ → ℕ
+count_up faults = if nat_lt faults (2 ^ 64 - 1) then faults + 1 else faults
+
+-- a failure counts, and a refusal doesn't
+abbrev pub faults_after : Fault → ℕ → ℕ
+faults_after Failed faults = count_up faults
+faults_after OutOfMemory faults = count_up faults
+faults_after Refused faults = faults
+
+-- nothing changed, or the disk as it was is the last of the past
+abbrev pub GoesOn : Moment → List Moment → Moment → List Moment → Type 0
+GoesOn now past next past_next = ((next ≡ now) × (past_next ≡ past)) ⊎ (past_next ≡ past ++ now ∷ [])
+
+none_after : (moments : List Moment) (disk : Disk) → Had (drop (length moments) moments) disk → ⊥
+none_after [] disk had = had
+none_after (moment ∷ moments) disk had = none_after moments disk had
+
+-- after all of the past there is what is there now
+pub only_now : (memory : MemoryDisk) (disk : Disk) → HadSince memory (length memory.past.items) disk
+    → HadSince memory memory.durable disk
+only_now memory disk (inl now) = inl now
+only_now memory disk (inr had) = absurd (none_after memory.past.items disk had)

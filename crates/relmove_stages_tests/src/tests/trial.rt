@@ -1,0 +1,40 @@
+//! An executor of which nothing is known, over a disk in memory. So a test needs no proof that its actions can be done.
+use relmove_journal::{Stage, Work};
+use relmove_stages::{Action, Executor};
+use relmove_stages_disk::{Fault, MemoryDisk};
+
+/// A disk in memory of which nothing is known.
+#[derive(Drop)]
+pub struct Trial {
+    pub disk: MemoryDisk,
+}
+
+impl Executor for Trial {
+    type Fault = Fault;
+
+    ghost use Rattle.relmove_stages_tests.specs.Trials.{unknown};
+
+    ghost state = { λ trial. unknown };
+
+    fn prepare(&mut self, work: &Work, stage: Stage) -> Result<(), Fault> {
+        self.disk.prepare(work, stage)
+    }
+
+    fn act(&mut self, work: &Work, action: Action<'_>) -> Result<(), Fault> {
+        self.disk.act(work, action)
+    }
+
+    fn complete(&mut self, work: &Work, stage: Stage) -> Result<(), Fault> {
+        self.disk.complete(work, stage)
+    }
+
+    fn enter(&mut self, work: &Work, stage: Stage) -> Result<(), Fault> {
+        self.disk.enter(work, stage)
+    }
+
+    fn end(&mut self, work: &Work) -> Result<(), Fault> {
+        self.disk.end(work)
+    }
+
+    ghost only_now = { λ trial c left. left };
+}
