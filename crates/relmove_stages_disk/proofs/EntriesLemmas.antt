@@ -29,7 +29,8 @@ tree-elsewhere entry entries place differ =
 
 moved-under : (from to : Place) (item : Item) (rest : Place) → item.place ≡ from ++ rest → (moved from to item).place ≡ to ++ rest
 moved-under from to item rest is =
-    rw ((starts item.place from).1 rest is) (ap (λ place. to ++ drop (length from) place) is ∙ ap (λ rest. to ++ rest) (drop-append_seam from rest))
+    rw ((starts item.place from).1 rest is) (ap (λ place. to ++ drop (length from) place) is ∙ ap (λ rest. to ++ rest)
+    (drop-append_seam from rest))
 
 moved-node : (from to : Place) (item : Item) → (moved from to item).node ≡ item.node
 moved-node from to item = by (starts_with bytes_eq item.place from) refl
@@ -68,7 +69,8 @@ moved-more from to item items free later = by (under_or item.place from)
     by : IsUnder item.place from ⊎ (¬ IsUnder item.place from)
         → tree_of (map (moved from to) (item ∷ items)) ≡ after_rename (from, to) (tree_of (item ∷ items))
     by (inl (rest, is)) =
-        ap (λ place. with_node place (Some (moved from to item).node) (tree_of (map (moved from to) items))) (moved-under from to item rest is)
+        ap (λ place. with_node place (Some (moved from to item).node) (tree_of (map (moved from to) items)))
+        (moved-under from to item rest is)
         ∙ ap (λ node. with_node (to ++ rest) (Some node) (tree_of (map (moved from to) items))) (moved-node from to item)
         ∙ ap (with_node (to ++ rest) (Some item.node)) later
         ∙ sym (ap (λ place. after_rename (from, to) (with_node place (Some item.node) (tree_of items))) is

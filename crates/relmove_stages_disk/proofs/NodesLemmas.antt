@@ -30,7 +30,8 @@ with_node-swap one two m n tree apart = λ i. λ other. at other i
         by (inl same) (inl same_2) = absurd (apart (sym same ∙ same_2))
         by (inl same) (inr differ_2) =
             ap (with_node one m (with_node two n tree)) same ∙ with_node-at one m (with_node two n tree)
-            ∙ sym (with_node-elsewhere two n (with_node one m tree) other differ_2 ∙ ap (with_node one m tree) same ∙ with_node-at one m tree)
+            ∙ sym (with_node-elsewhere two n (with_node one m tree) other differ_2 ∙ ap (with_node one m tree) same
+            ∙ with_node-at one m tree)
         by (inr differ) (inl same_2) =
             with_node-elsewhere one m (with_node two n tree) other differ ∙ ap (with_node two n tree) same_2 ∙ with_node-at two n tree
             ∙ sym (ap (with_node two n (with_node one m tree)) same_2 ∙ with_node-at two n (with_node one m tree))

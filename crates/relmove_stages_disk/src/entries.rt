@@ -141,7 +141,8 @@ fn renamed_entry(
     from: RelativePath<'_>,
     to: RelativePath<'_>,
 ) -> Result<Entry, AllocError>
-    ensures { IfOk result (λ copy. item_of copy ≡ moved (names_of (path_text from.entry)) (names_of (path_text to.entry)) (item_of entry.now)) }
+    ensures { IfOk result (λ copy. item_of copy
+        ≡ moved (names_of (path_text from.entry)) (names_of (path_text to.entry)) (item_of entry.now)) }
 {
     let Ok(rest) = entry.path.as_relative_path().strip_prefix(from) else {
         return entry.copy(alloc);
@@ -160,7 +161,8 @@ pub(crate) fn renamed(
     to: RelativePath<'_>,
 ) -> Result<Vec<Entry>, AllocError>
     ensures { IfOk result (λ copies. HasNothing (entries_tree entries.now) (names_of (path_text to.entry))
-        → entries_tree copies.items ≡ after_rename (names_of (path_text from.entry), names_of (path_text to.entry)) (entries_tree entries.now)) }
+        → entries_tree copies.items
+        ≡ after_rename (names_of (path_text from.entry), names_of (path_text to.entry)) (entries_tree entries.now)) }
 {
     let mut copies = Vec::new(alloc);
     for entry in entries {

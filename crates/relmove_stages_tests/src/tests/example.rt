@@ -82,7 +82,7 @@ const PLACED: &[(&str, &str)] = &[
 ];
 
 /// How many calls a run makes from its first rename to its end.
-pub const CALLS: usize = 28;
+pub const CALLS: usize = 27;
 
 fn text_file(alloc: Global, path: &str, text: &str) -> Result<TextFile, AllocError> {
     Ok(TextFile {

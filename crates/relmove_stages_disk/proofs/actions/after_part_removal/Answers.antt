@@ -12,23 +12,31 @@ pub returns-then-is_nothing : goal.returns-then-is_nothing
 returns-then-is_nothing c =
     let tree = entries_tree c.args.entries.now in
     let place = names_of (path_text c.new-path.result) in
-    let gone : entries_tree c.args.entries.now (names_of (path_text c.new-path.result)) ≡ None = sym c.find_node.ensures ∙ c.is_nothing.ensures.nothing c.if-is_nothing.true in
-    subst (λ text. Answers (RemovesPart (names_of text) c.args.digest.now) (entries_tree c.args.entries.now) c.given_memory.result) c.new-path.ensures
-    (changed (RemovesPart place c.args.digest.now) tree tree c.copies_of.result c.given_memory.result c.given_memory.ensures c.copies_of.ensures (part-gone tree place c.args.digest.now gone))
+    let gone : entries_tree c.args.entries.now (names_of (path_text c.new-path.result)) ≡ None = sym c.find_node.ensures
+    ∙ c.is_nothing.ensures.nothing c.if-is_nothing.true in
+    subst (λ text. Answers (RemovesPart (names_of text) c.args.digest.now) (entries_tree c.args.entries.now) c.given_memory.result)
+    c.new-path.ensures
+    (changed (RemovesPart place c.args.digest.now) tree tree c.copies_of.result c.given_memory.result c.given_memory.ensures
+    c.copies_of.ensures (part-gone tree place c.args.digest.now gone))
 
 pub returns-then-not-has_part : goal.returns-then-not-has_part
 returns-then-not-has_part c =
     let tree = entries_tree c.args.entries.now in
     let place = names_of (path_text c.new-path.result) in
-    let there : IsSome (entries_tree c.args.entries.now (names_of (path_text c.new-path.result))) = subst IsSome c.find_node.ensures (c.is_nothing.ensures.something c.if-is_nothing.false) in
+    let there : IsSome (entries_tree c.args.entries.now (names_of (path_text c.new-path.result))) = subst IsSome c.find_node.ensures
+    (c.is_nothing.ensures.something c.if-is_nothing.false) in
     let other : c.has_part.result ≡ false = search rules in
-    subst (λ text. Answers (RemovesPart (names_of text) c.args.digest.now) (entries_tree c.args.entries.now) (Err Refused)) c.new-path.ensures
+    subst (λ text. Answers (RemovesPart (names_of text) c.args.digest.now) (entries_tree c.args.entries.now) (Err Refused))
+    c.new-path.ensures
     (part-other tree place c.args.digest.now there (λ bytes is. c.has_part.ensures.no other bytes (c.find_node-2.ensures ∙ is)))
 
 pub returns : goal.returns
 returns c =
     let tree = entries_tree c.args.entries.now in
     let place = names_of (path_text c.new-path.result) in
-    let there : IsSome (entries_tree c.args.entries.now (names_of (path_text c.new-path.result))) = subst IsSome c.find_node.ensures (c.is_nothing.ensures.something c.if-is_nothing.false) in
-    subst (λ text. Answers (RemovesPart (names_of text) c.args.digest.now) (entries_tree c.args.entries.now) c.given_memory-2.result) c.new-path.ensures
-    (changed (RemovesPart place c.args.digest.now) tree (with_node place None tree) c.without.result c.given_memory-2.result c.given_memory-2.ensures c.without.ensures (part-done tree place c.args.digest.now there))
+    let there : IsSome (entries_tree c.args.entries.now (names_of (path_text c.new-path.result))) = subst IsSome c.find_node.ensures
+    (c.is_nothing.ensures.something c.if-is_nothing.false) in
+    subst (λ text. Answers (RemovesPart (names_of text) c.args.digest.now) (entries_tree c.args.entries.now) c.given_memory-2.result)
+    c.new-path.ensures
+    (changed (RemovesPart place c.args.digest.now) tree (with_node place None tree)
+    c.without.result c.given_memory-2.result c.given_memory-2.ensures c.without.ensures (part-done tree place c.args.digest.now there))

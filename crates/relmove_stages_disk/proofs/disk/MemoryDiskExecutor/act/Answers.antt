@@ -8,15 +8,18 @@ use Rattle.relmove_stages_disk.proofs.disk.MemoryDiskExecutor.act.Goals as goal
 
 pub returns-clause-does : goal.returns-clause-does
 returns-clause-does c =
-    HasActed-does (IsTrue (nat_lt c.counted.new.faults (2 ^ 64 - 1))) (action_of c.args.action) (entries_tree c.args.self.now.now.entries.items)
+    HasActed-does (IsTrue (nat_lt c.counted.new.faults (2 ^ 64 - 1))) (action_of c.args.action)
+    (entries_tree c.args.self.now.now.entries.items)
     (entries_tree c.try_act-outcome.new.now.entries.items) c.counted.result
-    (subst (λ r. HasActed (action_of c.args.action) (entries_tree c.args.self.now.now.entries.items) (entries_tree c.try_act-outcome.new.now.entries.items) r)
+    (subst (λ r. HasActed (action_of c.args.action) (entries_tree c.args.self.now.now.entries.items)
+    (entries_tree c.try_act-outcome.new.now.entries.items) r)
     (sym c.counted.ensures.outcome) c.try_act-outcome.ensures.acted)
 
 pub returns-clause-outcome : goal.returns-clause-outcome
 returns-clause-outcome c =
     λ clean.
-    HasActed-may_do (action_of c.args.action) (entries_tree c.args.self.now.now.entries.items) (entries_tree c.try_act-outcome.new.now.entries.items)
+    HasActed-may_do (action_of c.args.action) (entries_tree c.args.self.now.now.entries.items)
+    (entries_tree c.try_act-outcome.new.now.entries.items)
     c.try_act-outcome.result c.try_act-outcome.ensures.acted
 
 pub returns-clause-journal : goal.returns-clause-journal
@@ -36,7 +39,9 @@ returns-clause-crash c =
 pub returns-clause-cause : goal.returns-clause-cause
 returns-clause-cause c =
     has_cause
-    (IsReady (action_of c.args.action) (entries_tree c.args.self.now.now.entries.items) ⊎ IsDone (action_of c.args.action) (entries_tree c.args.self.now.now.entries.items))
+    (IsReady (action_of c.args.action) (entries_tree c.args.self.now.now.entries.items) ⊎ IsDone (action_of c.args.action)
+    (entries_tree c.args.self.now.now.entries.items))
     c.counted.result c.args.self.now.faults c.counted.new.faults c.counted.ensures.err
-    (λ is can. HasActed-refused (action_of c.args.action) (entries_tree c.args.self.now.now.entries.items) (entries_tree c.try_act-outcome.new.now.entries.items)
+    (λ is can. HasActed-refused (action_of c.args.action) (entries_tree c.args.self.now.now.entries.items)
+    (entries_tree c.try_act-outcome.new.now.entries.items)
     c.try_act-outcome.result c.try_act-outcome.ensures.acted (sym c.counted.ensures.outcome ∙ is) can)
