@@ -1,12 +1,12 @@
 -- What the entries say is at a path, or below it, as a walk over them finds it.
-use Rattle.std.proofs.Common.{Bool, true, false, not, true≢false, IsTrue, ◌↔◌, ◌≡◌, ◌≢◌, ℕ, ◌+◌, ◌<◌, List, [], ◌∷◌, ◌++◌, Option, Some, None, IsSome, drop, get_or, length, map, refl, sym, ap, ◌∙◌, append-nil, arith}
-use Rattle.std.proofs.lemmas.List.{length-append, map-append}
+use Rattle.std.proofs.Common.{Bool, true, false, not, true≢false, IsTrue, ◌↔◌, ◌≡◌, ◌≢◌, ℕ, ◌+◌, ◌<◌, List, [], ◌∷◌, ◌++◌, Option, Some, None, IsSome, drop, get_or, length, map, refl, sym, ap, ◌∙◌, append-nil}
+use Rattle.std.proofs.lemmas.List.{map-append}
 use Rattle.relative_path.specs.Steps.{Step, components, step_text}
 use Rattle.relmove_stages_disk.proofs.EntriesLemmas.{rest-more, tree-elsewhere, tree-here}
 use Rattle.relmove_stages_disk.proofs.PathsLemmas.{names_of-same, same-names_of}
-use Rattle.relmove_stages_disk.specs.Entries.{IsBelow, entries_tree, item_of, node_of}
+use Rattle.relmove_stages_disk.specs.Entries.{IsBelow, entries_tree, node_of}
 use Rattle.relmove_stages_disk.specs.declared.entry.Entry.{Entry}
-use Rattle.relmove_trees.proofs.FileTreesLemmas.{push_front, some_is, some_none}
+use Rattle.relmove_trees.proofs.FileTreesLemmas.{some_is}
 use Rattle.relmove_trees.specs.FileTrees.{CanTake, Directory, HasBelow, HasNothing, Node, Place, Tree, names_of}
 
 -- what is at the place is among the entries from the index on
@@ -94,18 +94,3 @@ takes tree text top last split held none below = record {
 
 pub takes-none : (tree : Tree) (place : Place) → CanTake tree place → tree place ≡ None
 takes-none tree place can = ap tree (sym (append-nil place)) ∙ can.free []
-
-pub takes-below : (tree : Tree) (place : Place) → CanTake tree place → ¬ HasBelow tree place
-takes-below tree place can (n, rest, some) = some_none (tree (place ++ n ∷ rest)) some (can.free (n ∷ rest))
-
-pub takes-held : (tree : Tree) (text top : List ℕ) (last : Step) → components text ≡ components top ++ last ∷ []
-    → CanTake tree (names_of text) → tree (names_of top) ≡ Some Directory
-takes-held tree text top last split can =
-    ap tree (push_front (names_of top) can.top (step_text last) can.last
-    (sym (ap (map step_text) split ∙ map-append step_text (components top) (last ∷ [])) ∙ can.split)) ∙ can.held
-
-pub takes-root : (tree : Tree) (text : List ℕ) → components text ≡ [] → ¬ CanTake tree (names_of text)
-takes-root tree text none can =
-    let count = ap length (sym (ap (map step_text) none) ∙ can.split) in
-    let long = length-append can.top (can.last ∷ []) in
-    absurd (omega (arith, count, long))

@@ -1,5 +1,5 @@
 -- A path as its components, and as the place that its names lead to.
-use Rattle.std.proofs.Common.{◌≡◌, ◌≢◌, ◌⊎◌, inl, inr, ℕ, List, [], ◌∷◌, ◌++◌, length, map, refl, sym, ap, ◌∙◌, append-nil, arith}
+use Rattle.std.proofs.Common.{◌≡◌, ◌≢◌, ℕ, List, [], ◌∷◌, ◌++◌, length, map, refl, sym, ap, ◌∙◌, append-nil, arith}
 use Rattle.std.proofs.lemmas.List.{length-append, map-append}
 use Rattle.relative_path.proofs.ForCallers.{SpellThemselves-components, classed-proper}
 use Rattle.relative_path.specs.Prefixing.{StartsWith}
@@ -32,16 +32,12 @@ under-starts text top (rest, is) = (
       ∙ ap (λ cs. cs ++ map classed rest) (sym (components-names_of top)),
 )
 
--- a place isn't below itself
-pub below-differs : (place : Place) (n : List ℕ) (rest : Place) → place ++ n ∷ rest ≢ place
-below-differs place n rest same =
-    let long = ap length same in
-    let long_2 = length-append place (n ∷ rest) in
-    absurd (omega (arith, long, long_2))
-
 -- the same path isn't below
 pub not_below-same : (text top : List ℕ) → components text ≡ components top → ¬ IsBelow (names_of text) (names_of top)
-not_below-same text top same (n, rest, is) = below-differs (names_of top) n rest (sym is ∙ names_of-same text top same)
+not_below-same text top same (n, rest, is) =
+    let long = ap length (sym is ∙ names_of-same text top same) in
+    let long_2 = length-append (names_of top) (n ∷ rest) in
+    absurd (omega (arith, long, long_2))
 
 -- a path that doesn't begin with the other isn't below
 pub not_below-apart : (text top : List ℕ) → ¬ StartsWith (components text) (components top) → ¬ IsBelow (names_of text) (names_of top)
