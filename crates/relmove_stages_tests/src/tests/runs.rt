@@ -1,8 +1,7 @@
 //! Runs of which each call fails in turn, and runs that go on after a loss of power.
 use crate::tests::example::{AFTER, BEFORE, CALLS, Place, TORN, WRITTEN, entries, has, work};
-use crate::tests::trial::Trial;
+use crate::tests::trial::{Trial, finish_trial, turn_trial_back};
 use relmove_journal::{Stage, Work};
-use relmove_stages::{finish, turn_back};
 use relmove_stages_disk::{Entry, Failing, Failure, Fault, MemoryDisk};
 use std::alloc::Global;
 use std::process::Abort;
@@ -18,14 +17,14 @@ fn trial(alloc: Global, places: &[Place], stage: Stage) -> Result<Trial, Fault> 
 fn stopped(alloc: Global, work: &Work, failure: Failure) -> Result<Trial, Fault> {
     let mut trial = trial(alloc, WRITTEN, Stage::Staging)?;
     trial.disk.fail(Some(failure));
-    let _ = finish(&mut trial, work, Stage::Staging);
+    let _ = finish_trial(&mut trial, work, Stage::Staging);
     Ok(trial)
 }
 
 // Ends a run that stopped.
 fn end(trial: &mut Trial, work: &Work) -> Result<(), Fault> {
     match trial.disk.journal() {
-        Some(stage) => finish(trial, work, stage),
+        Some(stage) => finish_trial(trial, work, stage),
         None => Ok(()),
     }
 }
@@ -46,7 +45,7 @@ fn goes_on(rt: &impl Abort, alloc: Global, work: &Work, failure: Failure) -> Res
 fn carries_out(rt: HostRuntime) -> Result<(), Fail> {
     let work = work(rt.alloc())?;
     let mut trial = trial(rt.alloc(), WRITTEN, Stage::Staging)?;
-    finish(&mut trial, &work, Stage::Staging)?;
+    finish_trial(&mut trial, &work, Stage::Staging)?;
     assert!(rt; has(&trial.disk, AFTER), "all actions are done");
     Ok(())
 }
@@ -82,7 +81,7 @@ fn take_back(trial: &mut Trial, work: &Work) -> Result<&'static [Place], Fault> 
     let Some(stage) = trial.disk.journal() else {
         return Ok(AFTER);
     };
-    if turn_back(trial, work, stage)? {
+    if turn_trial_back(trial, work, stage)? {
         return Ok(BEFORE);
     }
     end(trial, work)?;
@@ -135,7 +134,7 @@ fn takes_back_what_is_torn(rt: HostRuntime) -> Result<(), Fail> {
     let work = work(rt.alloc())?;
     let mut trial = trial(rt.alloc(), TORN, Stage::Writing)?;
     assert!(rt;
-        turn_back(&mut trial, &work, Stage::Writing)?,
+        turn_trial_back(&mut trial, &work, Stage::Writing)?,
         "nothing has moved"
     );
     assert!(rt;

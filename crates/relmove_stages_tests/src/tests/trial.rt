@@ -1,6 +1,6 @@
 //! An executor of which nothing is known, over a disk in memory. So a test needs no proof that its actions can be done.
 use relmove_journal::{Stage, Work};
-use relmove_stages::{Action, Executor};
+use relmove_stages::{Action, Executor, finish, turn_back};
 use relmove_stages_disk::{Fault, MemoryDisk};
 
 /// A disk in memory of which nothing is known.
@@ -37,4 +37,14 @@ impl Executor for Trial {
     }
 
     ghost only_now = { λ trial c left. left };
+}
+
+/// Does what is left of a stage and of those after it, and ends the run.
+pub fn finish_trial(trial: &mut Trial, work: &Work, stage: Stage) -> Result<(), Fault> {
+    finish(trial, work, stage)
+}
+
+/// Takes a run at a stage back, and returns `true`, or returns `false` if it is too late.
+pub fn turn_trial_back(trial: &mut Trial, work: &Work, stage: Stage) -> Result<bool, Fault> {
+    turn_back(trial, work, stage)
 }
