@@ -273,8 +273,20 @@ fn names_no_place_that_moves_along(rt: HostRuntime) -> Result<(), Fail> {
     Ok(())
 }
 
-// Pages that get another name in a directory, and a file that names them.
-const RENAMED: [(&str, &[Place], &[&str], &str); 2] = [
+// What changes its place or its name, and a file that names it.
+const RENAMED: [(&str, &[Place], &[&str], &str); 3] = [
+    (
+        "two directories change places",
+        &[
+            ("m.yml", Some("- x/a.md\n")),
+            ("x", None),
+            ("x/a.md", Some("aa")),
+            ("y", None),
+            ("y/a.md", Some("bb")),
+        ],
+        &["site", "x", "y", "y", "x"],
+        "site/m.yml:1: x/a.md is written here, and isn't a link that is read\n0 pages would change, 2 directories would move. Nothing is written: add --write.\n",
+    ),
     (
         "a swap",
         &[
