@@ -2,4 +2,3 @@ pub mod Printing
 pub mod Permissions
 pub mod Ends
 pub mod Faults
-pub mod Unknown

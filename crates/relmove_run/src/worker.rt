@@ -1,5 +1,5 @@
 //! Does the work of a run, from any stage on. Each action asks first whether it is done.
-ghost use Rattle.relmove_run.specs.Unknown.{unknown};
+ghost use Rattle.relmove_stages.specs.States.{unknown};
 
 use crate::disk::{
     Above, PageChange, RunFile, Written, are_names_of_one_file, carry, copy_of, digest_at,

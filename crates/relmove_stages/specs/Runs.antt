@@ -22,6 +22,17 @@ pub record Trees : Type 0 where
   pub made : Tree
   pub placed : Tree
 
+-- of the trees of a run nothing is known: any will do
+abbrev pub unknown_trees : Trees
+unknown_trees = record {
+  before = λ _. None;
+  torn = λ _. None;
+  written = λ _. None;
+  staged = λ _. None;
+  made = λ _. None;
+  placed = λ _. None;
+}
+
 -- the tree at which a stage begins
 abbrev pub tree_at : Trees → Stage → Tree
 tree_at trees Writing = trees.torn

@@ -1,5 +1,5 @@
 -- What a crash may leave, and how calls go on.
-use Rattle.std.specs.Prelude.{◌≡◌, ◌⊎◌, ◌≤◌, ℕ, Bool, Option, IsTrue}
+use Rattle.std.specs.Prelude.{◌≡◌, ◌⊎◌, ◌≤◌, ⊥, ℕ, Bool, false, Option, None, IsTrue}
 use Rattle.relmove_journal.specs.declared.work.Stage.{Stage}
 use Rattle.relmove_trees.specs.FileTrees.{Tree}
 
@@ -23,6 +23,17 @@ pub record State : Type 1 where
   pub faults : ℕ
   -- no answer was other than the tree's, and nobody else changed the tree
   pub is_clean : Bool
+
+-- nothing: nobody knows what is on the disk, and it isn't clean
+abbrev pub unknown : State
+unknown = record {
+  disk = record { journal = None; tree = λ _. None };
+  may_leave = λ _. ⊥;
+  moment = 0;
+  left_since = λ _ _. ⊥;
+  faults = 0;
+  is_clean = false;
+}
 
 -- The calls between two states leave only disks that have P, or what might have been left before.
 pub record Leaves (P : Disk → Type 0) (old new : State) : Type 0 where

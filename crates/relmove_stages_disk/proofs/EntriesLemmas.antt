@@ -17,7 +17,8 @@ pub rest-more : (entries : List Entry) (i : ℕ) (entry : Entry) → i < length 
     → drop i entries ≡ entry ∷ drop (i + 1) entries
 rest-more entries i entry within is = drop_more entries i entry within ∙ ap (λ e. e ∷ drop (i + 1) entries) (sym is)
 
-pub tree-here : (entry : Entry) (entries : List Entry) → entries_tree (entry ∷ entries) (item_of entry).place ≡ Some (item_of entry).node
+pub tree-here : (entry : Entry) (entries : List Entry)
+    → entries_tree (entry ∷ entries) (item_of entry).place ≡ Some (item_of entry).node
 tree-here entry entries = with_node-at (item_of entry).place (Some (item_of entry).node) (entries_tree entries)
 
 pub tree-elsewhere : (entry : Entry) (entries : List Entry) (place : Place) → place ≢ (item_of entry).place
@@ -45,13 +46,14 @@ moved-elsewhere from to item none = rw (not_starts item.place from none) refl
 same-item : (one other : Item) → one.place ≡ other.place → one.node ≡ other.node → one ≡ other
 same-item one other place node = λ i. record { place = place i; node = node i }
 
-pub moved-is : (from to rest : Place) (item copy : Item) → item.place ≡ from ++ rest → copy.place ≡ to ++ rest → copy.node ≡ item.node
-    → copy ≡ moved from to item
+pub moved-is : (from to rest : Place) (item copy : Item) → item.place ≡ from ++ rest → copy.place ≡ to ++ rest
+    → copy.node ≡ item.node → copy ≡ moved from to item
 moved-is from to rest item copy at copy_at node =
     same-item copy (moved from to item) (copy_at ∙ sym (moved-under from to item rest at)) (node ∙ sym (moved-node from to item))
 
 not_there : (to : Place) (item : Item) (items : List Item) → HasNothing (tree_of (item ∷ items)) to → ¬ IsUnder item.place to
-not_there to item items free (rest, is) = some_none (tree_of (item ∷ items) item.place) here (ap (tree_of (item ∷ items)) is ∙ free rest)
+not_there to item items free (rest, is) =
+    some_none (tree_of (item ∷ items) item.place) here (ap (tree_of (item ∷ items)) is ∙ free rest)
   where
     here : IsSome (tree_of (item ∷ items) item.place)
     here = some_is _ _ (sym (with_node-at item.place (Some item.node) (tree_of items))) refl

@@ -12,7 +12,7 @@ pub struct Trial {
 impl Executor for Trial {
     type Fault = Fault;
 
-    ghost use Rattle.relmove_stages_tests.specs.Trials.{unknown};
+    ghost use Rattle.relmove_stages.specs.States.{unknown};
 
     ghost state = { λ trial. unknown };
 

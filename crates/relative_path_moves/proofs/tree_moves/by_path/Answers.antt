@@ -21,12 +21,14 @@ loop-k-preserved c =
     record {
       paths = olds_of-here (λ olds _. Indexes olds c.insert_normal.new.self) f moves c.index-moves-k.result c.loop-k.k within
           c.index-moves-k.is
-          (c.in_ok-first.ensures.indexes _ (f c.index-moves-k.result).old before.paths count (rw c.in_ok-path.ensures.same c.path_on.ensures));
+          (c.in_ok-first.ensures.indexes _ (f c.index-moves-k.result).old before.paths count
+          (rw c.in_ok-path.ensures.same c.path_on.ensures));
       pair = HasPair-next (map f moves) c.loop-k.k c.in_ok-first.first c.loop-k.pair c.first_pair-pair.result
           (rw (length-map moves f) within)
           (olds_of-here (λ olds old. IsFirstAt olds old c.in_ok-first.first) f moves c.index-moves-k.result c.loop-k.k within
           c.index-moves-k.is
-          (c.in_ok-first.ensures.first _ (f c.index-moves-k.result).old before.paths count (rw c.in_ok-path.ensures.same c.path_on.ensures)))
+          (c.in_ok-first.ensures.first _ (f c.index-moves-k.result).old before.paths count
+          (rw c.in_ok-path.ensures.same c.path_on.ensures)))
           before.pair next.one next.earlier next.later;
     }
 

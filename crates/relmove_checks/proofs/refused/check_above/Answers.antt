@@ -12,7 +12,8 @@ returns-in_err-check_place-clause-refused c =
     (λ tree known.
     IsOfFirst-here (λ (move : Move). IsBelowNo (is_barrier c.args.barrier) tree c.args.entries.now move.new)
     c.args.moves.now c.loop-number.number c.index-moves-number.result
-    c.loop-number-test.true c.index-moves-number.is (c.loop-number.invariant tree known) (IsAboveRefusal c.args.barrier tree c.args.entries.now)
+    c.loop-number-test.true c.index-moves-number.is (c.loop-number.invariant tree known)
+    (IsAboveRefusal c.args.barrier tree c.args.entries.now)
     c.in_err-check_place.field-0.0 (c.in_err-check_place.ensures.refused [] tree known))
 
 pub loop-number-preserved : goal.loop-number-preserved

@@ -1,13 +1,5 @@
-use Rattle.std.proofs.Common.{None}
+use Rattle.relmove_stages.specs.Runs.{unknown_trees}
 use Rattle.relmove_run.proofs.machine.finish_stages.Given as goal
 
--- nothing is known of the trees, so any will do
 abbrev pub ghost-finish : goal.ghost-finish
-ghost-finish g a = record {
-  before = λ _. None;
-  torn = λ _. None;
-  written = λ _. None;
-  staged = λ _. None;
-  made = λ _. None;
-  placed = λ _. None;
-}
+ghost-finish g a = unknown_trees
