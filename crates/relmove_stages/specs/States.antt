@@ -1,5 +1,5 @@
 -- What a crash may leave, and how calls go on.
-use Rattle.std.specs.Prelude.{◌≡◌, ◌⊎◌, ◌≤◌, ⊥, ℕ, Bool, false, Option, None, IsTrue}
+use Rattle.std.specs.Prelude.{◌≡◌, ◌⊎◌, ◌≤◌, ℕ, Bool, false, Option, None, IsTrue}
 use Rattle.relmove_journal.specs.declared.work.Stage.{Stage}
 use Rattle.relmove_trees.specs.FileTrees.{Tree}
 
