@@ -1,11 +1,8 @@
 -- What pushes and pops do to the components of a text.
-use Rattle.std.proofs.Common.{◌≡◌, ◌≢◌, ℕ, suc, ◌+◌, ◌-◌, ◌<◌, ◌≤◌, false, List, [], ◌∷◌, ◌++◌, replicate, length, get_or, take, Option, Some, None, MatchOption, Bor, sym, refl, ap, ap₂, ◌∙◌, subst, append_assoc, append-nil, arith, lit<, ne_eqb, eqb, eqb-true, length-append, take_at, zero, add-one, not, ⊎_elim}
-use Rattle.std.specs.Option.{unwrap_or}
+use Rattle.std.proofs.Common.{◌≡◌, ◌≢◌, ℕ, suc, ◌+◌, ◌-◌, ◌<◌, ◌≤◌, false, List, [], ◌∷◌, ◌++◌, replicate, length, get_or, take, sym, refl, ap, ap₂, ◌∙◌, subst, append_assoc, append-nil, arith, ne_eqb, eqb, eqb-true, length-append, take_at, zero, add-one, not, ⊎_elim}
 use Rattle.std.specs.List.{suffix_len, prefix_len}
-use Rattle.std.specs.Str.Pattern.{FindsCharPrefix, StripsPrefix}
 use Rattle.std.proofs.lemmas.Bool.{cond-true, cond-false, cases_Bool, cond_both}
 use Rattle.std.proofs.lemmas.List.{reverse-append, replicate_more, length-replicate}
-use Rattle.std.proofs.lemmas.Str.Pattern.{strip_prefix_char}
 use Rattle.std.proofs.lemmas.List.Elements.{filter-append}
 use Rattle.relative_path.specs.Steps.{slash, Step, cur, components, up, name, step_text, spell, SpellThemselves, SpellsItself}
 use Rattle.relative_path.specs.Slices.{IsShortestPrefix, IsCut, IsFront}
@@ -13,20 +10,6 @@ use Rattle.relative_path.specs.Editing.{with_separator, unslashed, pushed, is_cu
 use Rattle.relative_path.proofs.StepsLemmas.{components-nil, components-append, components-slash, components-trailing_slash, SpellThemselves-components, HasNoSlash-proper, HasNoSlash-start, nonempty_proper}
 use Rattle.relative_path.proofs.SlicesLemmas.{IsPrefix, IsPrefix-trans, IsPrefix-shortest, IsShortestPrefix-from, IsShortestPrefix-trans, end-IsShortestPrefix, ends_separated}
 use Rattle.relative_path.proofs.SpellingLemmas.{spell_end, spell_nonempty, spell-append}
-
--- what `strip_prefix` returns, or the text itself
-pub unslashed-strip_prefix : (text : List ℕ) (r : Option (Bor (List ℕ))) (whole : Bor (List ℕ)) → whole.now ≡ text
-    → MatchOption r (FindsCharPrefix slash text None) (λ x. StripsPrefix (FindsCharPrefix slash) text x.now)
-    → (unwrap_or r whole).now ≡ unslashed text
-unslashed-strip_prefix text r whole all found = stripped text r (strip_prefix_char slash text r found (lit< tt)) all
-  where
-    stripped : (bs : List ℕ) (o : Option (Bor (List ℕ)))
-        → MatchOption o ((rest : List ℕ) → bs ≢ slash ∷ rest) (λ x. bs ≡ slash ∷ x.now) → whole.now ≡ bs
-        → (unwrap_or o whole).now ≡ unslashed bs
-    stripped [] None other same = same
-    stripped (b ∷ bs) None other same =
-        same ∙ sym (cond-false _ _ _ (ne_eqb b slash (λ e. other bs (ap (λ x. x ∷ bs) e))))
-    stripped bs (Some rest) joined same = sym (ap unslashed joined)
 
 -- ---- the components that a parent loses
 

@@ -133,6 +133,7 @@ pub fn push(out: &mut [u8], len: usize, path: RelativePath<'_>) -> Result<usize,
 }
 
 // Views the first `len` bytes as a text.
+#[inline(always)]
 fn text_of(out: &[u8], len: usize) -> &str
     requires within { len ≤ length out.now }
     requires utf8 { IsUtf8 (take len out.now) }
@@ -158,6 +159,7 @@ fn write(out: &mut [u8], text: &str) -> Result<usize, WriteError>
 }
 
 // Writes a text after the first `len` bytes. Returns the length of both.
+#[inline(always)]
 fn append(out: &mut [u8], len: usize, text: &str) -> usize
     requires room { len + length text.now ≤ length out.old }
     ensures text { take result out.new ≡ take len out.old ++ text.now }
@@ -172,6 +174,7 @@ fn append(out: &mut [u8], len: usize, text: &str) -> usize
 
 // Writes a slash after the first `len` bytes. Returns the length of both. `append` does the same with a call that copies,
 // which is slower.
+#[inline(always)]
 fn append_slash(out: &mut [u8], len: usize) -> usize
     requires room { len < length out.old }
     ensures text { take result out.new ≡ take len out.old ++ slash ∷ [] }
@@ -184,6 +187,7 @@ fn append_slash(out: &mut [u8], len: usize) -> usize
 }
 
 // Pushes a path that fits onto the text in the first `len` bytes. Returns the new length.
+#[inline(always)]
 fn push_within(out: &mut [u8], len: usize, path: &str) -> usize
     requires within { len ≤ length out.old }
     requires utf8 { IsUtf8 (take len out.old) }

@@ -4,10 +4,10 @@ ghost use Rattle.std.specs.List.{position_or_len, before_first, after_first};
 ghost use Rattle.relative_path.specs.Steps.{slash, is_slash, components};
 ghost use Rattle.relative_path.specs.Masked.{KnowsSlashes};
 
-use crate::slashes::{BLOCK, far_first_piece_len, slashes_in, without_leading_slashes};
+use crate::slashes::{NEAR, far_first_piece_len, slashes_in, without_leading_slashes};
 
 // How many bytes a mask knows at most.
-const MASK: usize = 64;
+const MASK: usize = NEAR;
 
 // A text, and a bit for each of its first bytes, set if the byte is a slash or the text ends there. The mask knows the
 // bytes up to its highest bit.
@@ -72,7 +72,7 @@ impl<'a> Masked<'a> {
 
 // Returns whether the text begins with a slash.
 #[inline(always)]
-fn starts_with_slash(text: &str) -> bool
+pub(crate) fn starts_with_slash(text: &str) -> bool
     ensures { IsTrue result ↔ (slice_index text.now 0 ≡ slash) }
 {
     let bytes = text.as_bytes();
@@ -82,7 +82,7 @@ fn starts_with_slash(text: &str) -> bool
 // Drops the slash that the text begins with.
 #[inline(always)]
 #[tactic(auto, using(crate::proofs::MaskedLemmas::IsCharBoundary_after_slash, crate::proofs::MaskedLemmas::some_from_slash))]
-fn after_slash(text: &str) -> &str
+pub(crate) fn after_slash(text: &str) -> &str
     requires { slice_index text.now 0 ≡ slash }
     ensures { result.now ≡ drop 1 text.now }
 {
@@ -136,7 +136,7 @@ fn split_at_slash(text: &str, len: usize) -> (&str, &str)
 fn mask_of(bytes: &[u8]) -> u64
     requires { bytes.now ≢ [] }
     ensures known { KnowsSlashes result bytes.now }
-    ensures far { result ≡ 0 → (BLOCK ≤ length bytes.now) × (BLOCK ≤ position_or_len is_slash bytes.now) }
+    ensures far { result ≡ 0 → (NEAR ≤ length bytes.now) × (NEAR ≤ position_or_len is_slash bytes.now) }
 {
     if bytes.len() >= MASK {
         slashes_in::<MASK>(bytes, 0)

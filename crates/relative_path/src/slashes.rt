@@ -10,6 +10,12 @@ use std::simd::prelude::*;
 // How many bytes are compared at once.
 pub(crate) const BLOCK: usize = 16;
 
+// How many bytes have no slash where a search for a far one begins.
+pub(crate) const NEAR: usize = 64;
+
+// How many bytes this search compares at once.
+const FAR: usize = 32;
+
 // How many bytes are compared at once in a text shorter than a block.
 const HALF: usize = 8;
 
@@ -72,23 +78,23 @@ fn without_trailing_slashes_slow(text: &str) -> &str
     front.trim_end_matches('/')
 }
 
-// Counts the bytes before the first slash, if the first block has none.
+// Counts the bytes before the first slash, if the near ones have none.
 #[inline(never)]
 #[tactic(auto, using(crate::proofs::SlashesLemmas::position_le))]
 pub(crate) fn far_first_piece_len(bytes: &[u8]) -> usize
-    requires block { BLOCK ≤ length bytes.now }
-    requires near { BLOCK ≤ position_or_len is_slash bytes.now }
+    requires long { NEAR ≤ length bytes.now }
+    requires near { NEAR ≤ position_or_len is_slash bytes.now }
     ensures { result ≡ position_or_len is_slash bytes.now }
 {
-    let last = bytes.len() - BLOCK;
-    let mut start = BLOCK;
+    let last = bytes.len() - FAR;
+    let mut start = NEAR;
     while start < last {
-        if let Some(len) = first_in::<BLOCK>(bytes, start) {
+        if let Some(len) = first_in::<FAR>(bytes, start) {
             return start + len;
         }
-        start += BLOCK;
+        start += FAR;
     }
-    first_in_last::<BLOCK>(bytes)
+    first_in_last::<FAR>(bytes)
 }
 
 // Counts the bytes before the first slash, if none comes before the last N bytes.

@@ -1,5 +1,5 @@
 -- A text that isn't empty is plain if each of its bytes is.
-use Rattle.std.proofs.Common.{◌≡◌, ◌==◌, ℕ, Bool, true, false, true≢false, List, [], ◌∷◌, length, rules, tests}
+use Rattle.std.proofs.Common.{◌≡◌, ◌==◌, ℕ, Bool, false, true≢false, List, [], ◌∷◌, length, rules, tests}
 use Rattle.std.specs.List.{list_all}
 use Rattle.std.proofs.lemmas.Iterator.{YieldsList-from_slice}
 use Rattle.std.proofs.lemmas.Iterator.Search.{all_from_yields_List}
