@@ -5,7 +5,7 @@ ghost use Rattle.relative_path_moves.specs.Moves.{moves_of};
 ghost use Rattle.relmove_checks.specs.Plan.{AreAllowed, IsRefused};
 ghost use Rattle.relmove_steps.specs.Pages.{page_paths};
 ghost use Rattle.relmove_steps.specs.Actions.{action_texts};
-ghost use Rattle.relmove_plan.specs.KnownTrees.{RunsOn};
+ghost use Rattle.relmove_plan.specs.KnownTrees.{MakesFreeNames, RunsOn};
 ghost use Rattle.relmove_plan.specs.WholeTrees.{IsWhole};
 
 use crate::symlinks::{SymlinkNotice, symlink_notices};
@@ -58,6 +58,8 @@ pub fn make_plan<'a, F: Finder>(
         tree.entry.pages.now plan.pages.items) }
     // the moves pass each check
     ensures accepted { OnOk result (AreAllowed tree.entry.entries.now (moves_of moves.now) rule) }
+    // no entry is at the names that the actions make
+    ensures free { IfOk result (λ plan. MakesFreeNames tree.entry.entries.now (action_texts plan.actions)) }
     // on a whole tree that agrees with entries and pages the actions can be done, and end in the tree after the moves
     ensures run { IfOk result (λ plan. IsWhole tree.entry.entries.now (page_paths tree.entry.pages.now)
         → RunsOn tree.entry.entries.now tree.entry.pages.now plan.pages.items (moves_of moves.now)

@@ -41,6 +41,12 @@ actions_of-requires-clause-long g c =
     (AllZip-long (ForMovedPage (KeepsLinks (g.F.Finder.finds c.args.finder.now)) c.in_ok-table.table)
     c.args.tree.pages.now c.in_ok-pages.pages.items c.in_ok-pages.ensures.links)
 
+pub returns-clause-free : goal.returns-clause-free
+returns-clause-free g c = record {
+  staging = (c.in_ok-actions.ensures.names (entry_paths c.args.tree.entries.now) c.in_ok-index.ensures).unused;
+  new_files = (c.in_ok-actions.ensures.files (entry_paths c.args.tree.entries.now) c.in_ok-index.ensures).unused;
+}
+
 -- entries are where something leaves
 from_entries : (g : _) (c : goal.After-drop-index-2 g) → IsWhole c.args.tree.entries.now (page_paths c.args.tree.pages.now)
     → LeaveFromEntries (entry_paths c.args.tree.entries.now) (moves_of c.args.moves.now)
