@@ -96,8 +96,9 @@ fn answer_command(
     answer_arguments(alloc, command, arguments, output)
 }
 
-// Adds the answer to a command with as many arguments as it takes. Out of line, so that no other line pays for it.
-#[inline(never)]
+// Adds the answer to a command with as many arguments as it takes. The commands but `normalize` are out of line, so that
+// no other line pays for them.
+#[inline(always)]
 fn answer_arguments(
     alloc: Global,
     command: Command,
@@ -127,6 +128,7 @@ fn answer_normalize(alloc: Global, path: &str, output: &mut String) -> Result<()
     add_path(output, &RelativePath::new(path).normalize(alloc)?)
 }
 
+#[inline(never)]
 fn answer_join(alloc: Global, path: &str, more: &str, output: &mut String) -> Result<(), AllocError>
     ensures { OnOk result
         (Adds (AnswersJoin path.now more.now) (string_bytes output.old) (string_bytes output.new)) }
@@ -135,6 +137,7 @@ fn answer_join(alloc: Global, path: &str, more: &str, output: &mut String) -> Re
     add_path(output, &joined)
 }
 
+#[inline(never)]
 fn answer_relative(
     alloc: Global,
     from: &str,
@@ -148,6 +151,7 @@ fn answer_relative(
     add_path(output, &way)
 }
 
+#[inline(never)]
 fn answer_try_relative(
     alloc: Global,
     from: &str,
@@ -163,6 +167,7 @@ fn answer_try_relative(
     }
 }
 
+#[inline(never)]
 fn answer_relative_to(
     alloc: Global,
     path: &str,
@@ -178,6 +183,7 @@ fn answer_relative_to(
     }
 }
 
+#[inline(never)]
 fn answer_move(
     alloc: Global,
     old: &str,
