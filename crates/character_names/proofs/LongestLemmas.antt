@@ -74,7 +74,8 @@ longest_within-candidate text end is =
 abbrev IsLongestWithin : ℕ → List ℕ → Option (ℕ × Characters) → Type 0
 IsLongestWithin most text None = (m : ℕ) → m ≤ most → characters_of (take m text) ≡ None
 IsLongestWithin most text (Some (n, v)) =
-    (n ≤ most) × (characters_of (take n text) ≡ Some v) × ((m : ℕ) → n < m → m ≤ most → characters_of (take m text) ≡ None)
+    (n ≤ most) × (characters_of (take n text) ≡ Some v)
+    × ((m : ℕ) → n < m → m ≤ most → characters_of (take m text) ≡ None)
 
 none-more : (most : ℕ) (text : List ℕ) (m : ℕ) → (m ≤ most → characters_of (take m text) ≡ None)
     → characters_of (take (suc most) text) ≡ None → m ≤ suc most → characters_of (take m text) ≡ None

@@ -307,7 +307,8 @@ StandsFor-no_last olds set directory text n old has is_old is none stands = elim
 
 -- what is found for a property is found for one that holds of the same paths
 pub Finds-map : (olds : List (List ℕ)) (P Q : List ℕ → Type 0) (found : Option NormalView)
-    → ((old : List ℕ) → Contains olds old → P old → Q old) → ((old : List ℕ) → Q old → P old) → Finds olds P found → Finds olds Q found
+    → ((old : List ℕ) → Contains olds old → P old → Q old) → ((old : List ℕ) → Q old → P old) → Finds olds P found
+    → Finds olds Q found
 Finds-map olds P Q None to from none = λ old is_old holds. none old is_old (from old holds)
 Finds-map olds P Q (Some path) to from (is_old, holds) = (is_old, to (view_text path) is_old holds)
 

@@ -64,7 +64,8 @@ among_or (first ∷ places) place = by (place_or place first) (among_or places p
     by (inr differ) (inl among) = inl (inr among)
     by (inr differ) (inr none) = inr (λ among. elim among [ inl same ↦ differ same | inr is ↦ none is ])
 
-removes-kept : (places : List Place) (tree : Tree) (other : Place) → ¬ IsAmong places other → after_removes places tree other ≡ tree other
+removes-kept : (places : List Place) (tree : Tree) (other : Place) → ¬ IsAmong places other
+    → after_removes places tree other ≡ tree other
 removes-kept [] tree other none = refl
 removes-kept (place ∷ places) tree other none =
     removes-kept places _ other (λ among. none (inr among))
@@ -134,7 +135,8 @@ module _ {entries : List Entry} {pages changed : List (List Step)} {moves : List
 
     -- what is removed leaves there from a page that changes
     pub removed_page : (r : List ℕ) → Contains actions.removed r
-        → (from : List ℕ) × Contains actions.staged (from, r) × (c : ℕ) × (c < length changed) × IsNormalTextOf (path_at changed c) from
+        → (from : List ℕ) × Contains actions.staged (from, r) × (c : ℕ) × (c < length changed)
+        × IsNormalTextOf (path_at changed c) from
     removed_page r gone =
         let (j, within, is) = gone in
         let all : All (Contains (names_left actions)) (carrying.come run) =
@@ -145,7 +147,8 @@ module _ {entries : List Entry} {pages changed : List (List Step)} {moves : List
         (all (length (names_come actions) + j) r (omega (arith, within, long))))
       where
         by : (from : List ℕ) → Contains actions.staged (from, r) → LeavesFrom moves changed actions.texts from
-            → (from : List ℕ) × Contains actions.staged (from, r) × (c : ℕ) × (c < length changed) × IsNormalTextOf (path_at changed c) from
+            → (from : List ℕ) × Contains actions.staged (from, r) × (c : ℕ) × (c < length changed)
+            × IsNormalTextOf (path_at changed c) from
         by from left (of_page c inside normal) = (from, left, c, inside, normal)
         by from left (of_text old text has) =
             let (c, inside, old_of, to, carries, goes) = destinations.file_carries run (old, from, text) has in
@@ -165,7 +168,8 @@ module _ {entries : List Entry} {pages changed : List (List Step)} {moves : List
             ]
 
         at : Contains (names_left actions) r
-            → (from : List ℕ) × Contains actions.staged (from, r) × (c : ℕ) × (c < length changed) × IsNormalTextOf (path_at changed c) from
+            → (from : List ℕ) × Contains actions.staged (from, r) × (c : ℕ) × (c < length changed)
+            × IsNormalTextOf (path_at changed c) from
         at (i, inside, here) =
             let inside_2 : i < length actions.staged = rw length-map at inside in
             let (step, step_is) = element actions.staged i inside_2 in
@@ -210,7 +214,8 @@ module _ {entries : List Entry} {pages changed : List (List Step)} {moves : List
           ap (carried (renames_of actions)) (sym here) ∙ carried-removed from r left gone ∙ sym same,
         )
 
-    page_written : (c : ℕ) → c < length changed → (place : Place) → place_of (path_at changed c) ≡ Some place → IsSome (written place)
+    page_written : (c : ℕ) → c < length changed → (place : Place) → place_of (path_at changed c) ≡ Some place
+        → IsSome (written place)
     page_written c inside place leads =
         let file = run.files c [] inside in
         let here : file.place ≡ place = some_of (sym file.leads ∙ leads) in
@@ -241,7 +246,8 @@ module _ {entries : List Entry} {pages changed : List (List Step)} {moves : List
 
     -- ---- what arrives
 
-    not_page : (from : Place) → IsNoneAt changed (map name from) → (c : ℕ) → c < length changed → place_of (path_at changed c) ≢ Some from
+    not_page : (from : Place) → IsNoneAt changed (map name from) → (c : ℕ) → c < length changed
+        → place_of (path_at changed c) ≢ Some from
     not_page from none c inside leads = none c inside (IsSame-one_place from (walk-names [] from) leads)
 
     page_or : (place : Place)
@@ -252,7 +258,8 @@ module _ {entries : List Entry} {pages changed : List (List Step)} {moves : List
     taken_one : (cs : List Step) (from : Place) → place_of cs ≡ Some from → (target : List Step) → IsTreePath moves cs target
         → (place : Place) → place_of target ≡ Some place → (to : Place) → AreTakenTo moves from to → place ≡ to
     taken_one cs from leads target is place there to taken =
-        let (target_2, is_2, there_2) = AtTreePath-same moves (map name from) cs (λ t. place_of t ≡ Some to) (λ t. place_of t ≡ Some to)
+        let (target_2, is_2, there_2) = AtTreePath-same moves (map name from) cs
+        (λ t. place_of t ≡ Some to) (λ t. place_of t ≡ Some to)
         (IsSame-one_place from (walk-names [] from) leads) (λ t u same e. sym (same.everywhere []) ∙ e) taken in
         let same : target_2 ≡ target = IsTreePath-only moves cs target target_2 run.accepted.apart.come.leave.apart is is_2 in
         some_of (sym there ∙ ap place_of (sym same) ∙ there_2)
@@ -291,7 +298,8 @@ module _ {entries : List Entry} {pages changed : List (List Step)} {moves : List
 
     -- an entry that isn't a page that changes
     entry_comes : (b : Bool) (from : Place) → Any (IsAt b from) entries → IsNoneAt changed (map name from) → (target : List Step)
-        → IsTreePath moves (map name from) target → (to : Place) → place_of target ≡ Some to → carried (renames_of actions) from ≡ to
+        → IsTreePath moves (map name from) target → (to : Place) → place_of target ≡ Some to
+        → carried (renames_of actions) from ≡ to
     entry_comes b from at none target is to there =
         let come = arrivals.ComesTo-target run b (map name from) from (walk-names [] from) at none target is in
         ap (carried (renames_of actions)) (some_of (sym (walk-names [] from) ∙ come.leaves)) ∙ come.carries
@@ -374,7 +382,8 @@ module _ {entries : List Entry} {pages changed : List (List Step)} {moves : List
         has : stages.HasThings entries actions made written
         has = texts.has_things run made start of
 
-        missing : place ≢ [] → IsNoneAt (map components run.accepted.apart.after) (map name place) → after_placing place ≡ Some Directory
+        missing : place ≢ [] → IsNoneAt (map components run.accepted.apart.after) (map name place)
+            → after_placing place ≡ Some Directory
         missing some none =
             let (normal, normal_of, free) = run.accepted.below_no_file k within in
             let is_missing : IsMissing moves (map components run.accepted.apart.after) (map name place) = record {
@@ -399,7 +408,8 @@ module _ {entries : List Entry} {pages changed : List (List Step)} {moves : List
             let (path, path_is) = element made i inside_2 in
             let path_is_2 : get_or made i [] ≡ path = get_or_default made i [] path inside_2 ∙ path_is in
             let named : names_of text ≡ place = names_of-normal (map name place) text place normal_2 (walk-names [] place) in
-            ap after_placing (sym (ap (λ path. carried (coming actions) (names_of path)) (sym path_is_2) ∙ for_it ∙ ap names_of is ∙ named))
+            ap after_placing
+            (sym (ap (λ path. carried (coming actions) (names_of path)) (sym path_is_2) ∙ for_it ∙ ap names_of is ∙ named))
             ∙ stages.after_placing-made run made clear can_make can_come written has i path inside_2 path_is
 
         by : (place ≡ []) ⊎ (place ≢ []) → after_placing place ≡ Some Directory
@@ -487,7 +497,8 @@ module _ {entries : List Entry} {pages changed : List (List Step)} {moves : List
             (subst (IsMissingText moves (map components run.accepted.apart.after)) directory_is
             (arrive.are_missing.sound i directory inside)) in
             let to_is : at.place ≡ to =
-            sym at.named ∙ sym (ap names_of directory_is) ∙ sym for_it ∙ ap (λ text. carried (coming actions) (names_of text)) is ∙ comes in
+            sym at.named ∙ sym (ap names_of directory_is) ∙ sym for_it ∙ ap (λ text. carried (coming actions) (names_of text)) is
+            ∙ comes in
             let (n, rest, rest_is) = first_of at.rest at.some_rest in
             inr (at.move, at.within, n, rest, at.new ∙ ap Some (ap (λ top. top ++ at.rest) to_is ∙ ap (λ rest. to ++ rest) rest_is))
         joins kept (inl (from, comes, same)) =

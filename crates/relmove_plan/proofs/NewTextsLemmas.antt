@@ -94,7 +94,8 @@ module _ {entries : List Entry} {pages changed : List (List Step)} {moves : List
             IsNoneAt-entry entries _ b src.place none
             (ap (λ (new : List ℕ × List ℕ × List ℕ). place_of (components new.1)) is ∙ src.leads) at
 
-        held : (front : Place) (last : List ℕ) → front ++ last ∷ [] ≡ front ++ last ∷ [] → Any (IsAt false (front ++ last ∷ [])) entries
+        held : (front : Place) (last : List ℕ) → front ++ last ∷ [] ≡ front ++ last ∷ []
+            → Any (IsAt false (front ++ last ∷ [])) entries
             → (front ≡ []) ⊎ HasDirectoryAt entries front
         held [] last is file = inl refl
         held (x ∷ front) last is file =
@@ -133,7 +134,8 @@ module _ {entries : List Entry} {pages changed : List (List Step)} {moves : List
                 | inr (inr aside) ↦ absurd (aside.no_file new has refl)
               ]
 
-      write_ready-at : (k : ℕ) (new : List ℕ × List ℕ × List ℕ) → k < length actions.texts → get_or actions.texts k new ≡ new
+      write_ready-at : (k : ℕ) (new : List ℕ × List ℕ × List ℕ) → k < length actions.texts
+          → get_or actions.texts k new ≡ new
           → IsAddReady start files k (names_of new.1)
       write_ready-at k new within is =
           let it = file_at new (k, within, is) in
@@ -177,7 +179,8 @@ module _ {entries : List Entry} {pages changed : List (List Step)} {moves : List
       pub written-stays : (place : Place) → IsSome (start place) → written place ≡ start place
       written-stays place some = adds-stays files start can_write-all place some
 
-      pub written-there : (new : List ℕ × List ℕ × List ℕ) → Contains actions.texts new → written (names_of new.1) ≡ Some (File new.2)
+      pub written-there : (new : List ℕ × List ℕ × List ℕ) → Contains actions.texts new
+          → written (names_of new.1) ≡ Some (File new.2)
       written-there new (k, within, is) =
           adds-there files start can_write-all k (text_at new) (rw length-map within)
           (get_or-map text_at actions.texts k new (text_at new) within ∙ ap text_at is)

@@ -51,7 +51,8 @@ CanRenameAll [] tree = Unit {0}
 CanRenameAll (rename ∷ renames) tree = CanRename tree rename × CanRenameAll renames (after_rename rename tree)
 
 -- what is somewhere is where the renames carry it
-pub carried-arrives : (renames : List (Place × Place)) (tree : Tree) → CanRenameAll renames tree → (place : Place) → IsSome (tree place)
+pub carried-arrives : (renames : List (Place × Place)) (tree : Tree) → CanRenameAll renames tree → (place : Place)
+    → IsSome (tree place)
     → after_renames renames tree (carried renames place) ≡ tree place
 carried-arrives [] tree can place some = refl
 carried-arrives (rename ∷ renames) tree can place some =
@@ -68,7 +69,8 @@ carried-only (rename ∷ renames) tree end some =
     (place, ap (carried renames) comes_2 ∙ comes, same_2 ∙ same)
 
 -- two things don't come to one place
-pub carried-one : (renames : List (Place × Place)) (tree : Tree) → CanRenameAll renames tree → (one other : Place) → IsSome (tree one)
+pub carried-one : (renames : List (Place × Place)) (tree : Tree) → CanRenameAll renames tree → (one other : Place)
+    → IsSome (tree one)
     → IsSome (tree other) → carried renames one ≡ carried renames other → one ≡ other
 carried-one [] tree can one other some some_2 same = same
 carried-one (rename ∷ renames) tree can one other some some_2 same =

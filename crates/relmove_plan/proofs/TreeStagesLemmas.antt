@@ -58,7 +58,8 @@ pub record HasThings (entries : List Entry) (actions : ActionTexts) (made : List
   pub whole_tree : IsWholeTree tree
   pub there : (place : Place) → IsThing entries actions place → IsSome (tree place)
   pub directories : (place : Place) → Any (IsAt true place) entries → tree place ≡ Some Directory
-  pub only : (place : Place) → IsSome (tree place) → (place ≡ []) ⊎ (IsThing entries actions place ⊎ StaysAside actions made place)
+  pub only : (place : Place) → IsSome (tree place)
+      → (place ≡ []) ⊎ (IsThing entries actions place ⊎ StaysAside actions made place)
 
 module _ {entries : List Entry} {pages changed : List (List Step)} {moves : List Move} {rule : NameRule} {actions : ActionTexts}
     (run : IsKnownRun entries pages changed moves rule actions) (made : List (List ℕ)) (clear : NothingInTheWay entries actions)
@@ -81,7 +82,8 @@ module _ {entries : List Entry} {pages changed : List (List Step)} {moves : List
         ap (λ renames. carried renames place) (renames-coming actions m)
         ∙ carried-append (leaving actions) (take m (coming actions)) place
 
-    in_turn_none : (place : Place) → carried (take (length actions.staged + 0) (renames_of actions)) place ≡ carried (leaving actions) place
+    in_turn_none : (place : Place) → carried (take (length actions.staged + 0) (renames_of actions)) place
+        ≡ carried (leaving actions) place
     in_turn_none place =
         in_turn 0 place ∙ ap (λ renames. carried renames (carried (leaving actions) place)) (take-none (coming actions))
 
@@ -180,7 +182,8 @@ module _ {entries : List Entry} {pages changed : List (List Step)} {moves : List
 
     -- nothing that left is where no thing is
     after_staging-none : (place : Place) → place ≢ [] → (¬ IsThereAfter entries actions (length actions.staged + 0) place)
-        → ((other : Place) → StaysAside actions made other → carried (leaving actions) other ≢ place) → after_staging place ≡ None
+        → ((other : Place) → StaysAside actions made other → carried (leaving actions) other ≢ place)
+        → after_staging place ≡ None
     after_staging-none place some free aside = by (after_staging place) refl
       where
         by : (o : Option Node) → after_staging place ≡ o → after_staging place ≡ None
@@ -215,7 +218,8 @@ module _ {entries : List Entry} {pages changed : List (List Step)} {moves : List
         from_none : (place : Place) → carried (take 0 (map rename_places actions.placed)) place ≡ place
         from_none place = ap (λ renames. carried renames place) (take-none (coming actions))
 
-        made_before : (j : ℕ) (other : List ℕ) (d : Place × Node) → j < length (take k made) → get_or (take k made) j other ≡ other
+        made_before : (j : ℕ) (other : List ℕ) (d : Place × Node) → j < length (take k made)
+            → get_or (take k made) j other ≡ other
             → (j < k) × (get_or news j d ≡ made_at other)
         made_before j other d inside other_is =
             let less : j < k = omega (arith, inside, long) in
@@ -228,7 +232,8 @@ module _ {entries : List Entry} {pages changed : List (List Step)} {moves : List
           | inl root ↦ inl (ap after_staging root ∙ after_staging-whole.root)
           | inr (inl (start, at, comes)) ↦
               let here = has.directories start at in
-              inl (ap after_staging (sym (sym (in_turn_none start) ∙ comes)) ∙ staging-arrives start (some_is _ _ (sym here) refl) ∙ here)
+              inl (ap after_staging (sym (sym (in_turn_none start) ∙ comes)) ∙ staging-arrives start (some_is _ _ (sym here) refl)
+              ∙ here)
           | inr (inr (j, other, inside, other_is, there)) ↦
               let before = made_before j other (it.directory, Directory) inside other_is in
               inr (j, before.0, before.1 ∙ ap (λ place. (place, Directory)) (sym (from_none (names_of other)) ∙ there))
@@ -324,7 +329,8 @@ module _ {entries : List Entry} {pages changed : List (List Step)} {moves : List
             (All-take (λ (step : Place × Place). ¬ IsUnder [] step.0) m (coming actions)
             (carrying.placed_clear run [] (λ other (j, l, is) (rest, under). not_empty [] other.0 rest (sym under))))
 
-        holder : (holder : Place) × (after_making holder ≡ Some Directory) × (carried (take m (coming actions)) holder ≡ open_at.directory)
+        holder : (holder : Place) × (after_making holder ≡ Some Directory)
+            × (carried (take m (coming actions)) holder ≡ open_at.directory)
         holder = elim open_at.held [
           | inl top ↦ ([], after_making-whole.root, root ∙ sym top)
           | inr (inl (start, at, comes)) ↦
@@ -379,7 +385,8 @@ module _ {entries : List Entry} {pages changed : List (List Step)} {moves : List
     placing-whole = after_renames-whole (coming actions) after_making after_making-whole can_come-all
 
     -- each thing is where the renames carry it
-    pub after_placing-arrives : (place : Place) → IsSome (tree place) → after_placing (carried (renames_of actions) place) ≡ tree place
+    pub after_placing-arrives : (place : Place) → IsSome (tree place)
+        → after_placing (carried (renames_of actions) place) ≡ tree place
     after_placing-arrives place some =
         ap after_placing (carrying.carried-in_turn run place)
         ∙ carried-arrives (coming actions) after_making can_come-all (carried (leaving actions) place)
@@ -407,5 +414,10 @@ module _ {entries : List Entry} {pages changed : List (List Step)} {moves : List
               let there = adds-only news after_staging mid elsewhere in
               let (start, comes_2, same_2) =
               carried-only (leaving actions) tree mid (some_is _ _ (there) (some_is _ _ (sym same) some)) in
-              inl (start, carrying.carried-in_turn run start ∙ ap (carried (coming actions)) comes_2 ∙ comes, same_2 ∙ sym there ∙ same)
+              inl (
+                start,
+                carrying.carried-in_turn run start ∙ ap (carried (coming actions)) comes_2 ∙ comes,
+                same_2 ∙ sym there
+                    ∙ same,
+              )
         ]

@@ -138,7 +138,8 @@ module _ {entries : List Entry} {pages changed : List (List Step)} {moves : List
         ]
 
     -- what leaves from the place or from above it is moved
-    leaves_under : (i : ℕ) (step : List ℕ × List ℕ) → i < length actions.staged → get_or actions.staged i step ≡ step → (below : Place)
+    leaves_under : (i : ℕ) (step : List ℕ × List ℕ) → i < length actions.staged → get_or actions.staged i step ≡ step
+        → (below : Place)
         → place ≡ names_of step.0 ++ below → (k : ℕ) × TakesAlong moves place k below
     leaves_under i step within is below under = by (leaves.leaves run i step within is)
       where
@@ -236,7 +237,8 @@ module _ {entries : List Entry} {pages changed : List (List Step)} {moves : List
         }
           where
             end_is : place ≡ to ++ it.n ∷ it.rest
-            end_is = place_is ∙ ap (λ top. top ++ it.n ∷ it.rest) (some_of (sym (walk-names [] it.top) ∙ sym (ap place_of same) ∙ leads))
+            end_is = place_is
+                ∙ ap (λ top. top ++ it.n ∷ it.rest) (some_of (sym (walk-names [] it.top) ∙ sym (ap place_of same) ∙ leads))
 
             left_2 : IsLeftInPlace moves (map name place)
             left_2 q j below leads_2 takes =
@@ -320,7 +322,8 @@ module _ {entries : List Entry} {pages changed : List (List Step)} {moves : List
                 omega (arith, least, long, long_2, long_3)
 
 module _ {entries : List Entry} {pages changed : List (List Step)} {moves : List Move} {rule : NameRule} {actions : ActionTexts}
-    (run : IsKnownRun entries pages changed moves rule actions) (made : List (List ℕ)) (makes : MakesDirectories moves entries actions made)
+    (run : IsKnownRun entries pages changed moves rule actions) (made : List (List ℕ))
+    (makes : MakesDirectories moves entries actions made)
     (start : Tree) (whole_tree : IsWholeTree start)
     (no_name : (r : List ℕ) → Contains (names_left actions) r → start (r ∷ []) ≡ None)
     (no_file : (new : List ℕ × List ℕ × List ℕ) → Contains actions.texts new → start (names_of new.1) ≡ None)
@@ -463,7 +466,8 @@ module _ {entries : List Entry} {pages changed : List (List Step)} {moves : List
           IsUnder-shorter end new.0 along.top_end (taken.below, end_new) (it.n ∷ it.rest, refl) (omega (arith, less, long)) in
           let below_is : taken.below ≡ y ++ it.n ∷ it.rest =
           sym (drop-append_seam new.0 taken.below)
-          ∙ ap (drop (length new.0)) (sym end_new ∙ ap (λ top. top ++ it.n ∷ it.rest) top_is ∙ append_assoc new.0 y (it.n ∷ it.rest))
+          ∙ ap (drop (length new.0))
+          (sym end_new ∙ ap (λ top. top ++ it.n ∷ it.rest) top_is ∙ append_assoc new.0 y (it.n ∷ it.rest))
           ∙ drop-append_seam new.0 (y ++ it.n ∷ it.rest) in
           deeper y top_is below_is
     ]

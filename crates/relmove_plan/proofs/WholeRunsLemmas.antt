@@ -46,7 +46,8 @@ lead_makes (path ∷ made) P tree can holds = (
 )
 
 lead_renames : (actions : List (List ℕ × List ℕ)) (P : Tree → Type 0) (tree : Tree) → CanRenameAll (map rename_places actions) tree
-    → P (after_renames (map rename_places actions) tree) → LeadTo (map (λ step. Rename (names_of step.0) (names_of step.1)) actions) P tree
+    → P (after_renames (map rename_places actions) tree)
+    → LeadTo (map (λ step. Rename (names_of step.0) (names_of step.1)) actions) P tree
 lead_renames [] P tree can holds = holds
 lead_renames (step ∷ actions) P tree can holds = (
   can.0,

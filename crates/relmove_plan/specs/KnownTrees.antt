@@ -82,7 +82,8 @@ pub record IsAfterMoves (moves : List Move) (news : List MovedSitePage) (now end
   pub cleared : IsCleared (IsLeft moves news) moved end
 
 -- whoever does the actions on a tree that agrees can do each, and comes to the tree after the moves
-abbrev pub RunsOn : List Entry → List SitePage → List MovedSitePage → List Move → ActionTexts → List (List ℕ) → List (List ℕ)
+abbrev pub RunsOn : List Entry → List SitePage → List MovedSitePage → List Move → ActionTexts → List (List ℕ)
+    → List (List ℕ)
     → Type 0
 RunsOn entries pages news moves actions made emptied = (tree now : Tree) → AgreesWith entries pages moves actions tree
     → HasTexts pages news tree now → LeadTo (tree_actions actions made emptied) (IsAfterMoves moves news now) tree

@@ -125,7 +125,8 @@ rename-can_back tree from to whole can = record {
             let long_4 = length-append from rest in
             absurd (omega (arith, long, long_2, long_3, long_4))
 
-    by : (from ≡ []) ⊎ ((front : Place) × (last : List ℕ) × (from ≡ front ++ last ∷ [])) → CanTake (after_rename (from, to) tree) from
+    by : (from ≡ []) ⊎ ((front : Place) × (last : List ℕ) × (from ≡ front ++ last ∷ []))
+        → CanTake (after_rename (from, to) tree) from
     by (inl none) = absurd (can.apart (to, ap (λ from. from ++ to) (sym none)))
     by (inr (top, last, is)) = record {
       top = top;
@@ -231,7 +232,8 @@ acts-on (Removes place digest) tree backable = absurd backable
 acts-on (RemovesPart place digest) tree backable = absurd backable
 
 -- nothing is below a directory that was made
-made-empty : (place : Place) (old new : Tree) → HasNothing old place → new ≡ with_node place (Some Directory) old → ¬ HasBelow new place
+made-empty : (place : Place) (old new : Tree) → HasNothing old place → new ≡ with_node place (Some Directory) old
+    → ¬ HasBelow new place
 made-empty place old new free is (n, rest, some) =
     some_none (new (place ++ n ∷ rest)) some
     (ap (λ (t : Tree). t (place ++ n ∷ rest)) is

@@ -44,7 +44,8 @@ undone_element of xs m x within is =
 
 -- which action an action takes back
 pub undone-of : (actions : List StageAction) (m : ℕ) (action : StageAction) → slice_get (undone actions) m ≡ Some action
-    → (i : ℕ) × (before : StageAction) × (m + suc i ≡ length actions) × (slice_get actions i ≡ Some before) × (action ≡ back before)
+    → (i : ℕ) × (before : StageAction) × (m + suc i ≡ length actions) × (slice_get actions i ≡ Some before)
+    × (action ≡ back before)
 undone-of actions m action at =
     let within = slice_get_within (undone actions) m action at in
     let long = undone-length actions in

@@ -134,7 +134,8 @@ module _ (actions : List StageAction) (start : Tree) (stage : IsStage actions st
       ⊎ (IsDone action tree × (i < reached.done))
   next_or_done tree reached = by (cases_lt i reached.done)
     where
-      by : (i < reached.done) ⊎ (reached.done ≤ i) → (IsReady action tree × (reached.done ≡ i)) ⊎ (IsDone action tree × (i < reached.done))
+      by : (i < reached.done) ⊎ (reached.done ≤ i)
+          → (IsReady action tree × (reached.done ≡ i)) ⊎ (IsDone action tree × (i < reached.done))
       by (inl less) = inr (stage.done i reached.done action tree at less reached.within reached.is, less)
       by (inr least) =
           let same : reached.done ≡ i = omega (arith, least, reached.from) in

@@ -60,7 +60,8 @@ makes-stage paths P start leads = stage_of (map makes paths) P start leads
     (subst (λ (a : StageAction). Acts (tree_action a) old new) (sym s_is) acts)))
 
 -- what cleans removes something at its place, or nothing
-cleans-loses : (leftover : Leftover) (old new : Tree) → Acts (tree_action (cleans leftover)) old new → Loses (left_place leftover) old new
+cleans-loses : (leftover : Leftover) (old new : Tree) → Acts (tree_action (cleans leftover)) old new
+    → Loses (left_place leftover) old new
 cleans-loses (Text text) old new acts = inl acts
 cleans-loses (Directory path) old new (inl (none, is)) = inl is
 cleans-loses (Directory path) old new (inr (below, is)) = inr is
@@ -188,7 +189,8 @@ module _ (work : Work) (trees : Trees) where
   ends-back Erasing next tree some ends = subst (λ (s : Stage). EndsFrom work trees s tree) (sym (next_is Erasing next some)) ends
 
   -- the tree in which a run ends is one of two
-  pub ends-one_of : (stage : Stage) (tree : Tree) → EndsFrom work trees stage tree → (tree ≡ trees.before) ⊎ IsAllDone work trees tree
+  pub ends-one_of : (stage : Stage) (tree : Tree) → EndsFrom work trees stage tree
+      → (tree ≡ trees.before) ⊎ IsAllDone work trees tree
   ends-one_of Writing tree ends = inl ends
   ends-one_of Staging tree ends = inr ends
   ends-one_of Making tree ends = inr ends

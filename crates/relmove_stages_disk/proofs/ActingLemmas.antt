@@ -16,7 +16,8 @@ use Rattle.relmove_trees.specs.FileTrees.{CanTake, Directory, File, HasBelow, Is
 
 -- copies that have the tree after the action
 pub changed : (action : StageAction) (old new : Tree) (copies : Result (Vec Entry Global) AllocError)
-    (result : Result (Vec Entry Global) Fault) → IsGivenMemory copies result → IfOk copies (λ copies. entries_tree copies.items ≡ new)
+    (result : Result (Vec Entry Global) Fault) → IsGivenMemory copies result
+    → IfOk copies (λ copies. entries_tree copies.items ≡ new)
     → Does action old new → Answers action old result
 changed action old new (Ok copies) result given same does =
     subst (Answers action old) (sym given) (subst (Does action old) (sym same) does)
@@ -59,7 +60,8 @@ rename-nothing old from to none none_2 =
 pub rename-under : (old : Tree) (from to : Place) → IsSome (old from) → IsUnder to from → Answers (Takes from to) old (Err Refused)
 rename-under old from to some under = (λ ready. ready.apart under, λ done. some_none (old from) some done.0)
 
-pub rename-no_room : (old : Tree) (from to : Place) → IsSome (old from) → ¬ CanTake old to → Answers (Takes from to) old (Err Refused)
+pub rename-no_room : (old : Tree) (from to : Place) → IsSome (old from) → ¬ CanTake old to
+    → Answers (Takes from to) old (Err Refused)
 rename-no_room old from to some not = (λ ready. not ready.takes, λ done. some_none (old from) some done.0)
 
 -- ---- a directory made
@@ -125,7 +127,8 @@ remove-done old place digest some = record {
 }
 
 pub remove-other : (old : Tree) (place : Place) (digest : TextDigest) → IsSome (old place)
-    → ((bytes : List ℕ) → old place ≡ Some (File bytes) → ¬ IsText digest bytes) → Answers (Removes place digest) old (Err Refused)
+    → ((bytes : List ℕ) → old place ≡ Some (File bytes) → ¬ IsText digest bytes)
+    → Answers (Removes place digest) old (Err Refused)
 remove-other old place digest some other = (λ (bytes, is, text). other bytes is text, λ done. some_none (old place) some done)
 
 -- ---- a text removed that may be a part

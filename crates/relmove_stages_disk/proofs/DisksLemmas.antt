@@ -91,7 +91,8 @@ count_up-no_less old new is = by (nat_lt old (2 ^ 64 - 1)) refl
     by true less = let one : new ≡ old + 1 = is ∙ ap (λ b. cond b (old + 1) old) less in omega (arith, one)
     by false more = let same : new ≡ old = is ∙ ap (λ b. cond b (old + 1) old) more in omega (arith, same)
 
-more_faults : (fault : Fault) (old new : ℕ) → new ≡ faults_after fault old → IsTrue (nat_lt new (2 ^ 64 - 1)) → (fault ≡ Refused → ⊥)
+more_faults : (fault : Fault) (old new : ℕ) → new ≡ faults_after fault old → IsTrue (nat_lt new (2 ^ 64 - 1))
+    → (fault ≡ Refused → ⊥)
     → old < new
 more_faults Failed old new is clean not = count_up-more old new is clean
 more_faults OutOfMemory old new is clean not = count_up-more old new is clean
@@ -106,11 +107,13 @@ no_less (Err OutOfMemory) old new same counted = count_up-no_less old new counte
 no_less (Err Refused) old new same counted = omega (arith, counted)
 
 -- a result that isn't a refusal
-pub not_refused : {T : Type 0} (outcome : Result T Fault) → IfErr outcome (λ fault. fault ≡ Refused → ⊥) → outcome ≡ Err Refused → ⊥
+pub not_refused : {T : Type 0} (outcome : Result T Fault) → IfErr outcome (λ fault. fault ≡ Refused → ⊥)
+    → outcome ≡ Err Refused → ⊥
 not_refused (Ok done) not is = cc
 not_refused (Err fault) not is = let same : fault ≡ Refused = cc is in not same
 
-pub ok_then : {T : Type 0} (P Q : Type 0) (outcome result : Result T Fault) → result ≡ outcome → OnOk outcome Q → OnOk result (P → Q)
+pub ok_then : {T : Type 0} (P Q : Type 0) (outcome result : Result T Fault) → result ≡ outcome → OnOk outcome Q
+    → OnOk result (P → Q)
 ok_then {T = T} P Q outcome result same holds = subst (λ r. OnOk r (P → Q)) (sym same) (by outcome holds)
   where
     by : (outcome : Result T Fault) → OnOk outcome Q → OnOk outcome (P → Q)

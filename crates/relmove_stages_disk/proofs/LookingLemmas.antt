@@ -22,7 +22,8 @@ found entries i entry text within is among same =
     ∙ tree-here entry (drop (i + 1) entries)
 
 pub among-next : (entries : List Entry) (i : ℕ) (entry : Entry) (place : Place) → i < length entries
-    → entry ≡ get_or entries i entry → IsAmong entries i place → place ≢ names_of entry.path.text → IsAmong entries (i + 1) place
+    → entry ≡ get_or entries i entry → IsAmong entries i place → place ≢ names_of entry.path.text
+    → IsAmong entries (i + 1) place
 among-next entries i entry place within is among differ =
     among ∙ ap (λ rest. entries_tree rest place) (rest-more entries i entry within is)
     ∙ tree-elsewhere entry (drop (i + 1) entries) place differ
@@ -58,7 +59,8 @@ below-found entries i entry text within is among (n, rest, at) = (
 -- ---- tests of the code
 
 -- two paths were found equal
-pub same_path : (b : Bool) (view text other : List ℕ) → view ≡ text → (IsTrue b ↔ (components view ≡ components other)) → b ≡ true
+pub same_path : (b : Bool) (view text other : List ℕ) → view ≡ text → (IsTrue b ↔ (components view ≡ components other))
+    → b ≡ true
     → components text ≡ components other
 same_path b view text other is tells equal = ap components (sym is) ∙ tells.0 equal
 

@@ -40,7 +40,8 @@ not_below-same text top same (n, rest, is) =
     absurd (omega (arith, long, long_2))
 
 -- a path that doesn't begin with the other isn't below
-pub not_below-apart : (text top : List ℕ) → ¬ StartsWith (components text) (components top) → ¬ IsBelow (names_of text) (names_of top)
+pub not_below-apart : (text top : List ℕ) → ¬ StartsWith (components text) (components top)
+    → ¬ IsBelow (names_of text) (names_of top)
 not_below-apart text top none (n, rest, is) = none (under-starts text top (n ∷ rest, is))
 
 -- one that begins with another, and isn't the same, is below it

@@ -110,7 +110,8 @@ with_node-elsewhere place new tree other differ = by (under_or other place)
     at (n ∷ rest) is = refl
 
     by : IsUnder other place ⊎ (¬ IsUnder other place)
-        → (if starts_with bytes_eq other place then at_or_below new (tree other) (drop (length place) other) else tree other) ≡ tree other
+        → (if starts_with bytes_eq other place then at_or_below new (tree other) (drop (length place) other) else tree other)
+        ≡ tree other
     by (inl (rest, is)) =
         rw ((starts other place).1 rest is)
         (ap (at_or_below new (tree other)) (ap (drop (length place)) is ∙ drop-append_seam place rest) ∙ at rest is)
@@ -138,7 +139,8 @@ after_rename-whole tree whole_tree rename can = record { root = root; above = ab
     root : after_rename rename tree [] ≡ Some Directory
     root = after_rename-elsewhere rename.0 rename.1 tree [] not_at_root not_from_root ∙ whole_tree.root
 
-    above : (top : Place) (n : List ℕ) → IsSome (after_rename rename tree (top ++ n ∷ [])) → after_rename rename tree top ≡ Some Directory
+    above : (top : Place) (n : List ℕ) → IsSome (after_rename rename tree (top ++ n ∷ []))
+        → after_rename rename tree top ≡ Some Directory
     above top n some =
         by (under_or (top ++ n ∷ []) rename.1) (under_or (top ++ n ∷ []) rename.0) (under_or top rename.1)
         (under_or top rename.0)
@@ -165,7 +167,8 @@ after_rename-whole tree whole_tree rename can = record { root = root; above = ab
                 after_rename-elsewhere rename.0 rename.1 tree top none
                 (λ (rest_2, is_2). can.apart (
                   rest_2 ++ can.takes.last ∷ [],
-                  split ∙ ap (λ top. top ++ can.takes.last ∷ []) (sym same ∙ is_2) ∙ append_assoc rename.0 rest_2 (can.takes.last ∷ []),
+                  split ∙ ap (λ top. top ++ can.takes.last ∷ []) (sym same ∙ is_2)
+                      ∙ append_assoc rename.0 rest_2 (can.takes.last ∷ []),
                 ))
                 ∙ ap tree same ∙ can.takes.held
             at (inr (front, last, more)) =
