@@ -1,7 +1,7 @@
 //! What is on a disk: nodes, and the names that lead to them.
 use crate::changes::{Change, Changes};
 use crate::node::{Content, Node, Owner, READ, ROOT_USER, SEARCH, WRITE};
-use relmove_run::{directory_of, join, name_of};
+use relmove_journal::{directory_of, join, name_of};
 use std::alloc::{AllocError, Global};
 use std::io::{self, ErrorKind};
 

@@ -1,6 +1,6 @@
 //! Why moves are refused.
 use relmove_plan::Refusal;
-use relmove_run::RunFault;
+use relmove_store::RunFault;
 use std::alloc::{AllocError, AllocFailed};
 
 /// Why moves are refused. Moves are numbered from 0.

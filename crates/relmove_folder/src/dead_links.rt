@@ -4,7 +4,7 @@ use crate::presence::{Presence, presence_at};
 use crate::tree::{EntryKind, Page, Tree};
 use relative_path::RelativePath;
 use relative_path_links::{Target, targets};
-use relmove_run::{RunFault, Store};
+use relmove_store::{RunFault, Store};
 use std::alloc::{AllocError, Global};
 use std::io::ErrorKind;
 use target_paths::{TargetReading, path_of_target};

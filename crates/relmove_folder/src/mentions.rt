@@ -11,7 +11,7 @@ use relative_path_links::{Change, Edit, MovedSitePage};
 use relative_path_moves::{Move, TreeMoves};
 use relative_path_places::{NormalPath, NormalView, directory};
 use relmove_mentions::{FileText, Mention, OldNames, TextSpan, are_spans_in_order};
-use relmove_run::{RunFault, Store, SystemCall, at};
+use relmove_store::{RunFault, Store, SystemCall, at};
 use std::alloc::{AllocError, Global};
 use std::collections::{BTreeMap, BTreeSet};
 

@@ -1,5 +1,5 @@
 //! What the system says is at a path.
-use relmove_run::{Found, FoundKind, RunFault, Store};
+use relmove_store::{Found, FoundKind, RunFault, Store};
 use std::io::{self, ErrorKind};
 
 /// What a walk finds at a path.

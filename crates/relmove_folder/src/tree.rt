@@ -1,10 +1,10 @@
 //! Reads what is below the root: directories, files, links, and the texts of pages.
 use markdown_targets::link_targets;
 use relative_path::RelativePath;
+use relmove_actions::STAGING;
+use relmove_journal::{join, name_of};
 use relmove_mentions::is_page;
-use relmove_run::{
-    Found, FoundKind, PageFile, RunFault, STAGING, Store, SystemCall, at, join, name_of,
-};
+use relmove_store::{Found, FoundKind, PageFile, RunFault, Store, SystemCall, at};
 use std::alloc::{AllocError, Global};
 use std::collections::{BTreeMap, BTreeSet};
 use std::io::{self, ErrorKind};

@@ -15,7 +15,7 @@ pub use self::error::JournalError;
 pub use self::journal::{
     HEAD_LENGTH, Journal, Origin, begins_as_journal, journal_of, journal_text,
 };
-pub use self::names::{RUN_DIRECTORY, STAGING_NAME};
+pub use self::names::{JOURNAL, RUN_DIRECTORY, STAGING_NAME};
 pub use self::path::{directory_of, join, name_of};
 pub use self::shape::is_of_run;
 pub use self::text_digest::TextDigest;

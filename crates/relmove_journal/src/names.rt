@@ -1,5 +1,8 @@
 //! The names of a run's own, below its root.
 
+/// The journal's path from the root.
+pub const JOURNAL: &str = ".relmove";
+
 /// The path of a run's own directory from the root.
 pub const RUN_DIRECTORY: &str = ".relmove-run";
 

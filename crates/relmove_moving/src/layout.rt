@@ -2,7 +2,7 @@
 use relative_path::RelativePath;
 use relmove_folder::{EntryKind, Seen, Tree, has_path, is_read_directory, seen_by_system};
 use relmove_plan::Plan;
-use relmove_run::{RunFault, Store};
+use relmove_store::{RunFault, Store};
 use std::alloc::{AllocError, Global};
 use std::collections::BTreeMap;
 

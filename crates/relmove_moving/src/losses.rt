@@ -7,7 +7,7 @@ use relative_path_moves::TreeMoves;
 use relmove_findings::Loss;
 use relmove_folder::{EntryKind, Tree, find, has_unread_name};
 use relmove_plan::Plan;
-use relmove_run::{RunFault, Store};
+use relmove_store::{RunFault, Store};
 use std::alloc::{AllocError, Global};
 use std::collections::BTreeSet;
 

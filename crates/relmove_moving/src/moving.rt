@@ -9,10 +9,10 @@ use relmove_folder::{
     EntryKind, Page, Positions, Presence, Tree, cannot_read, has_path, has_unread_name,
     is_directory, is_read_directory, leads_somewhere, normal_text, presence_at,
 };
+use relmove_journal::{JOURNAL, directory_of, join};
 use relmove_plan::{Entry, Kind, NameRule, Plan, Refusal, make_plan};
-use relmove_run::{
-    FoundKind, JOURNAL, LONGEST_PATH, RunFault, Store, SystemCall, at, directory_of, is_absence,
-    join, need_short,
+use relmove_store::{
+    FoundKind, LONGEST_PATH, RunFault, Store, SystemCall, at, is_absence, need_short,
 };
 use std::alloc::{AllocError, Global};
 use std::io::ErrorKind;

@@ -1,7 +1,8 @@
 //! Where a path leads, through symbolic links too.
 use crate::layout::Layout;
 use relmove_folder::{Seen, find, seen_by_system};
-use relmove_run::{RunFault, Store, directory_of, join};
+use relmove_journal::{directory_of, join};
+use relmove_store::{RunFault, Store};
 use std::alloc::{AllocError, Global};
 
 // What a walk finds at a path outside the root.

@@ -1,8 +1,9 @@
 //! Asks whether the caller may change the directories of a run, before the run begins.
 use crate::walk::top_of;
 use relmove_folder::{Tree, find, is_directory_entry, known_answer};
+use relmove_journal::{directory_of, join};
 use relmove_plan::Plan;
-use relmove_run::{ROOT_USER, RunFault, Store, SystemCall, directory_of, fault_of, join};
+use relmove_store::{ROOT_USER, RunFault, Store, SystemCall, fault_of};
 use std::alloc::{AllocError, Global};
 use std::collections::{BTreeMap, BTreeSet};
 use std::io::{self, ErrorKind};

@@ -1,4 +1,1 @@
-pub mod Printing
-pub mod Permissions
 pub mod Ends
-pub mod Faults

@@ -1,8 +1,7 @@
 //! Whether a symbolic link is on the way to a path of a run.
 use crate::disk::copy_of;
-use crate::fault::{RunFault, SystemCall, at};
-use crate::store::{FoundKind, Store};
 use relmove_journal::{Leftover, Work};
+use relmove_store::{FoundKind, RunFault, Store, SystemCall, at};
 use std::alloc::{AllocError, Global};
 use std::collections::BTreeSet;
 use std::io::ErrorKind;

@@ -1,12 +1,9 @@
 //! The calls of a run on the files below a root. Each asks before it changes something.
-ghost use Rattle.std.specs.Prelude.{◌≡◌, ◌<◌};
-ghost use Rattle.relmove_run.specs.Permissions.{allowed_permissions, permissions};
-
-use crate::fault::{RunFault, SystemCall, at, fault_of};
-use crate::file_store::is_absence;
-use crate::store::{Found, FoundKind, PageFile, Store};
 use relmove_actions::NewText;
 use relmove_journal::{RUN_DIRECTORY, STAGING_NAME, TextDigest};
+use relmove_store::{
+    Found, FoundKind, PageFile, RunFault, Store, SystemCall, at, fault_of, is_absence,
+};
 use std::alloc::{AllocError, Global};
 use std::collections::BTreeMap;
 use std::io::ErrorKind;
@@ -460,32 +457,7 @@ fn give_to_owner<S: Store>(
     let _ = store.set_owner(file, old.owner, old.group);
     let found = store.find_new(file);
     let new = at(store.alloc(), SystemCall::Ask, path, found)?;
-    Ok(allowed_mode(old, &new))
-}
-
-// The permissions of an old file that a new one may have. Without the old owner it doesn't run as its owner or its
-// group, and without the old group its group may do only what others may do.
-fn allowed_mode(old: &PageFile, new: &Found) -> u32
-    ensures { result ≡ allowed_permissions old.now new.now }
-{
-    if new.owner == old.owner && new.group == old.group {
-        return old.mode;
-    }
-    let (owner, group, others) = (old.mode / 64 % 8, old.mode / 8 % 8, old.mode % 8);
-    if new.group == old.group {
-        return permissions(owner, group, others);
-    }
-    permissions(owner, group & others, others)
-}
-
-// The permissions with these rights of owner, group and others.
-fn permissions(owner: u32, group: u32, others: u32) -> u32
-    requires owner { owner < 8 }
-    requires group { group < 8 }
-    requires others { others < 8 }
-    ensures { result ≡ permissions owner group others }
-{
-    owner * 64 + group * 8 + others
+    Ok(old.allowed_mode(&new))
 }
 
 // Waits until the names in a directory are on the disk. A directory that can't be opened, or whose file system can't

@@ -1,13 +1,12 @@
 //! What the end of a run that stopped would do.
 ghost use Rattle.std.specs.Prelude.{◌≡◌, MatchResult, None, Some};
 ghost use Rattle.relmove_run.specs.Ends.{stage_to_end};
-ghost use Rattle.relmove_run.specs.declared.fault.RunFault.TheVariants.{TooLate};
+ghost use Rattle.relmove_store.specs.declared.fault.RunFault.TheVariants.{TooLate};
 
-use crate::change::Change;
-use crate::fault::RunFault;
 use crate::stages::{actions_of, change_of};
 use relmove_journal::{Stage, Work};
 use relmove_stages::{next_stage, stage_back};
+use relmove_store::{Change, RunFault};
 use std::alloc::{AllocError, Global};
 
 /// The direction in which a run that stopped is ended.

@@ -1,10 +1,7 @@
 //! Looks for journals of other runs, in the directories below a root and above it.
 use crate::disk::{copy_of, find};
-use crate::fault::RunFault;
-use crate::remark::Remark;
-use crate::run_files::JOURNAL;
-use crate::store::{FoundKind, Store};
-use relmove_journal::join;
+use relmove_journal::{JOURNAL, join};
+use relmove_store::{FoundKind, Remark, RunFault, Store};
 
 // How many directories above the root are looked at. No path that the system takes has more.
 const MOST_ABOVE: usize = 4096;

@@ -1,16 +1,12 @@
 //! Asks the system whether it can have the paths of a run, before the run begins.
 use crate::disk::copy_of;
-use crate::fault::{RunFault, SystemCall, at};
 use crate::staging_names::{is_of_text, staging_path, text_path};
-use crate::store::{Found, FoundKind, Store};
 use relmove_actions::Actions;
 use relmove_journal::{directory_of, join};
+use relmove_store::{Found, FoundKind, RunFault, Store, SystemCall, at, need_short};
 use std::alloc::Global;
 use std::collections::BTreeMap;
 use std::io::ErrorKind;
-
-/// How many bytes a path may have. The system counts a NUL at its end.
-pub const LONGEST_PATH: usize = 4095;
 
 /// Fails if the system can't have a path of these actions: a path is too long, or has a name that is, or is on another
 /// file system than the root. Nothing is changed.
@@ -48,16 +44,6 @@ fn find_at<S: Store>(store: &mut S, path: &str) -> Result<Option<Found>, RunFaul
         }
         asked => at(store.alloc(), SystemCall::Ask, path, asked),
     }
-}
-
-/// Fails if a path below a root is too long for the system.
-///
-/// Allocates the path with the root's path before it.
-pub fn need_short(alloc: Global, root: &str, path: &str) -> Result<(), RunFault> {
-    if join(alloc, root, path)?.len() > LONGEST_PATH {
-        return Err(RunFault::TooLong(String::from_str(alloc, path)?));
-    }
-    Ok(())
 }
 
 // Fails if what is at a path is on another file system than the root.

@@ -1,21 +1,18 @@
 //! A run, its end after a fault, and its undoing.
 use crate::above::need_no_symlinks_above;
-use crate::change::Change;
 use crate::disk::{PageChange, find, need_page, sync_directory};
 use crate::ending::{Direction, changes_from, goes_on, stage_to_end};
-use crate::fault::{RunFault, SystemCall, at};
 use crate::near::need_no_journal_near;
 use crate::possible::need_possible;
-use crate::remark::Remark;
 use crate::run_files::{
-    JOURNAL, Trust, find_journal, need_no_run_files, none_yet, remove_leftovers, run_files_of,
+    Trust, find_journal, need_no_run_files, none_yet, remove_leftovers, run_files_of,
 };
 use crate::staging_names::with_staging_names;
-use crate::store::{Found, PageFile, Store};
 use crate::worker::Worker;
 use relmove_actions::{Actions, NewText, Rename};
-use relmove_journal::{Journal, Leftover, Stage, TextDigest, TextFile, Work, is_of_run};
+use relmove_journal::{JOURNAL, Journal, Leftover, Stage, TextDigest, TextFile, Work, is_of_run};
 use relmove_stages::Executor;
+use relmove_store::{Change, Found, PageFile, Remark, RunFault, Store, SystemCall, at};
 use std::alloc::{AllocError, Global};
 use std::collections::BTreeMap;
 

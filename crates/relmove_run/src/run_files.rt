@@ -10,17 +10,14 @@ use crate::disk::{
     Above, OWNER_PERMISSIONS, RunFile, copy_of, create, find, find_to_remove, remove_file, sync,
     sync_directory, write_whole,
 };
-use crate::fault::{RunFault, SystemCall, at, fault_of};
-use crate::remark::Remark;
-use crate::store::{Found, FoundKind, ROOT_USER, Store};
 use relmove_journal::{
-    HEAD_LENGTH, Journal, Origin, RUN_DIRECTORY, Stage, Work, begins_as_journal, journal_of,
-    journal_text,
+    HEAD_LENGTH, JOURNAL, Journal, Origin, RUN_DIRECTORY, Stage, Work, begins_as_journal,
+    journal_of, journal_text,
+};
+use relmove_store::{
+    Found, FoundKind, ROOT_USER, Remark, RunFault, Store, SystemCall, at, fault_of,
 };
 use std::io::{self, ErrorKind};
-
-/// The journal's path from the root.
-pub const JOURNAL: &str = ".relmove";
 
 // A journal is written under this name.
 const NEW_JOURNAL: &str = ".relmove-journal";

@@ -1,7 +1,7 @@
 //! The actions of a stage as a list, with the paths of each and the change that it makes.
-use crate::change::Change;
 use relmove_journal::{Stage, Work};
 use relmove_stages::{Action, action_at};
+use relmove_store::Change;
 use std::alloc::{AllocError, Global};
 
 // What a run does in a stage, in this order. At the stage `writing` that is what takes the run back.

@@ -1,10 +1,9 @@
 //! Syncs the directories in which a stage of a run changed names, and removes the names that a loss of power kept there.
 use crate::disk::{Above, remove_second_name, sync_directory};
-use crate::fault::RunFault;
 use crate::stages::{actions_of, path_of, paths_of};
-use crate::store::Store;
 use relmove_journal::{Stage, Work, directory_of, join, name_of};
 use relmove_stages::Action;
+use relmove_store::{RunFault, Store};
 use std::alloc::{AllocError, Global};
 use std::collections::{BTreeMap, BTreeSet};
 

@@ -6,18 +6,16 @@ use crate::disk::{
     digest_of_found, find, find_to_remove, is_there, make_directory, need_run_directory,
     remove_directory, remove_file, unmake_directory, write_text,
 };
-use crate::fault::RunFault;
 use crate::machine::{finish_stages, turn_stages_back};
 use crate::near::look_near;
-use crate::remark::Remark;
 use crate::run_files::{
     RunFiles, make_run_directory, need_untaken, put_first, put_next, remove_all, take_directory,
 };
-use crate::store::{Found, FoundKind, Store};
 use crate::synced::{remove_left_names, sync_stage};
 use relmove_actions::Rename;
 use relmove_journal::{Leftover, Stage, TextDigest, TextFile, Work};
 use relmove_stages::{Action, Executor};
+use relmove_store::{Found, FoundKind, Remark, RunFault, Store};
 use std::alloc::AllocError;
 use std::io::ErrorKind;
 

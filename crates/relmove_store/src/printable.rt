@@ -1,7 +1,7 @@
 //! Texts as they are printed.
 ghost use Rattle.std.specs.Prelude.{◌≡◌, IsFalse, Some};
 ghost use Rattle.std.specs.Fmt.{WritesOnOk};
-ghost use Rattle.relmove_run.specs.Printing.{changes_text, has_change, printed, printed_character};
+ghost use Rattle.relmove_store.specs.Printing.{changes_text, has_change, printed, printed_character};
 
 use std::fmt;
 

@@ -1,8 +1,8 @@
 -- The permissions of a file: what its owner, its group and all others may do.
 use Rattle.std.specs.Prelude.{ℕ, ◌+◌, ◌*◌, ◌/◌, ◌%◌, ◌==◌, ◌&&◌, if◌then◌else◌}
 use Rattle.std.specs.Int.RustNames.{bit_and}
-use Rattle.relmove_run.specs.declared.store.Found.{Found}
-use Rattle.relmove_run.specs.declared.store.PageFile.{PageFile}
+use Rattle.relmove_store.specs.declared.store.Found.{Found}
+use Rattle.relmove_store.specs.declared.store.PageFile.{PageFile}
 
 -- what a file's owner may do: three bits
 abbrev pub rights_of_owner : ℕ → ℕ

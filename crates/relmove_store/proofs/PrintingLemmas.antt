@@ -11,7 +11,7 @@ use Rattle.std.specs.List.{flat_map, list_any}
 use Rattle.std.specs.Str.{IsAscii, IsUtf8, chars}
 use Rattle.std.specs.Str.Parse.{AllDigits}
 use lib.Utf8.{scalar_fits, scalars}
-use Rattle.relmove_run.specs.Printing.{changes_text, printed_character}
+use Rattle.relmove_store.specs.Printing.{changes_text, printed_character}
 
 or_assoc : (a b c : Bool) → (a || (b || c)) ≡ ((a || b) || c)
 or_assoc true b c = refl

@@ -4,9 +4,9 @@ use Rattle.std.proofs.lemmas.Iterator.{YieldsList-from_chars}
 use Rattle.std.proofs.lemmas.Iterator.Consumers.{YieldsList-turn, YieldsList-end}
 use Rattle.std.proofs.lemmas.List.{length_push}
 use Rattle.std.specs.Str.{chars}
-use Rattle.relmove_run.specs.Printing.{printed_character}
+use Rattle.relmove_store.specs.Printing.{printed_character}
 use Rattle.relmove_journal.proofs.ForCallers.{flat_map-end, flat_map-turn}
-use Rattle.relmove_run.proofs.printable.write_text.Goals as goal
+use Rattle.relmove_store.proofs.printable.write_text.Goals as goal
 
 pub loop-character-init : goal.loop-character-init
 loop-character-init g c = λ plain. ([], record { wrote = writes_in_calls_nil _ _; plain = plain }, refl)

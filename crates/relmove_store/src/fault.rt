@@ -1,7 +1,7 @@
 //! Why a call fails.
 ghost use Rattle.std.specs.Prelude.{◌≡◌};
-ghost use Rattle.relmove_run.specs.declared.fault.RunFault.TheVariants.{OutOfMemory};
-ghost use Rattle.relmove_run.specs.Faults.{fault_of_error};
+ghost use Rattle.relmove_store.specs.declared.fault.RunFault.TheVariants.{OutOfMemory};
+ghost use Rattle.relmove_store.specs.Faults.{fault_of_error};
 
 use crate::printable::Printable;
 use httpdate::{HttpDate, fmt_http_date};

@@ -1,5 +1,6 @@
 //! What a run needs of the files below a root, as a trait.
-ghost use Rattle.std.specs.Prelude.{◌≡◌, ◌==◌, ◌&&◌};
+ghost use Rattle.std.specs.Prelude.{◌≡◌, ◌<◌, ◌==◌, ◌&&◌};
+ghost use Rattle.relmove_store.specs.Permissions.{allowed_permissions, permissions};
 
 use std::alloc::{AllocError, Global};
 use std::io;
@@ -90,6 +91,32 @@ impl PageFile {
     {
         self.device == found.device && self.inode == found.inode
     }
+
+    /// The permissions that a new file may have in the place of this one. Without the old owner it doesn't run as its owner
+    /// or its group, and without the old group its group may do only what others may do.
+    pub fn allowed_mode(&self, new: &Found) -> u32
+        // with the old owner and group all, with the old group its rights, else to the group what others may do too
+        ensures mode { result ≡ allowed_permissions self.now new.now }
+    {
+        if new.owner == self.owner && new.group == self.group {
+            return self.mode;
+        }
+        let (owner, group, others) = (self.mode / 64 % 8, self.mode / 8 % 8, self.mode % 8);
+        if new.group == self.group {
+            return permissions(owner, group, others);
+        }
+        permissions(owner, group & others, others)
+    }
+}
+
+// The permissions with these rights of owner, group and others.
+fn permissions(owner: u32, group: u32, others: u32) -> u32
+    requires owner { owner < 8 }
+    requires group { group < 8 }
+    requires others { others < 8 }
+    ensures { result ≡ permissions owner group others }
+{
+    owner * 64 + group * 8 + others
 }
 
 /// The names in a directory.

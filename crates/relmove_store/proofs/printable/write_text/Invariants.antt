@@ -3,8 +3,8 @@ use Rattle.std.proofs.Common.{◌≡◌, ℕ, List, ◌++◌, drop, length}
 use Rattle.std.specs.Fmt.{HasWritten, IsPlainFormatter}
 use Rattle.std.specs.List.{flat_map}
 use Rattle.std.specs.Str.{chars}
-use Rattle.relmove_run.specs.Printing.{printed, printed_character}
-use Rattle.relmove_run.proofs.printable.write_text.Given as goal
+use Rattle.relmove_store.specs.Printing.{printed, printed_character}
+use Rattle.relmove_store.proofs.printable.write_text.Given as goal
 
 abbrev pub invariant-loop-character : goal.invariant-loop-character
 invariant-loop-character g l =
