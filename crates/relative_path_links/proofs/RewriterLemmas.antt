@@ -6,7 +6,7 @@ use Rattle.target_paths.specs.declared.target.TargetSyntax.{TargetSyntax}
 use Rattle.target_paths.specs.Reading.{IsTail}
 use Rattle.relative_path_links.specs.declared.edit.Change.{Change}
 use Rattle.relative_path_links.specs.declared.edit.Change.TheVariants.{Kept, New, Left}
-use Rattle.relative_path_links.specs.Rewriter.{Moving, AtLostFile, with_slash, ChangesPath, IsChangeByWay}
+use Rattle.relative_path_links.specs.Rewriter.{Moving, AtLostFile, written_like, ChangesPath, IsChangeByWay}
 
 -- what is written for a way is a moved target, or has a NUL
 module _ (m : Moving) (syntax : TargetSyntax) (path tail : List ℕ) (is_tail : IsTail syntax tail) where
@@ -14,10 +14,10 @@ module _ (m : Moving) (syntax : TargetSyntax) (path tail : List ℕ) (is_tail : 
       → (change : Change) → IsChangeByWay path tail way change → ChangesPath m syntax path tail change
   ChangesPath-way way shortest Kept is = absurd is
   ChangesPath-way way shortest (New text) (no_nul, whole, taken) = record {
-    new = with_slash path way;
+    new = written_like path way;
     is_new = record { way = way; shortest = shortest; text = refl };
     whole = whole;
     read = rw whole (taken syntax tail is_tail);
   }
   ChangesPath-way way shortest (Left why) (nul, has) =
-      rw nul (with_slash path way, record { way = way; shortest = shortest; text = refl }, has)
+      rw nul (written_like path way, record { way = way; shortest = shortest; text = refl }, has)

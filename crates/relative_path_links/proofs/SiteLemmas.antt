@@ -1,17 +1,17 @@
 -- Links read again after the moves, and the same page by other lists for the same directories.
-use Rattle.std.proofs.Common.{◌≡◌, ◌⊎◌, ℕ, ◌<◌, ◌+◌, true, false, List, [], ◌∷◌, ◌++◌, length, get_or, drop, Option, None, Some, String, IsNone, inl, inr, refl, sym, ap, ◌∙◌, subst, append-nil, append_assoc, string_bytes, true≢false}
+use Rattle.std.proofs.Common.{◌≡◌, ◌⊎◌, ℕ, ◌<◌, ◌+◌, ◌&&◌, not, true, false, List, [], ◌∷◌, ◌++◌, length, get_or, drop, codes, Option, None, Some, String, IsNone, inl, inr, refl, sym, ap, ◌∙◌, subst, append-nil, append_assoc, string_bytes, true≢false}
 use Rattle.std.proofs.Math.Seq.{drop-append_seam}
-use Rattle.std.proofs.lemmas.Bool.{cond_both}
+use Rattle.std.proofs.lemmas.Bool.{cond-false, cond_both}
 use Rattle.std.proofs.lemmas.List.{drop_more}
 use Rattle.std.proofs.lemmas.List.Elements.{All-from_recursion, recursion_from_All}
 use Rattle.std.specs.List.{AllByRecursion, AllZip}
 use Rattle.std.specs.declared.alloc.Global.{Global}
-use Rattle.relative_path.specs.Steps.{Step, slash, components, spell}
+use Rattle.relative_path.specs.Steps.{Step, cur, slash, components, spell}
 use Rattle.relative_path.specs.Walk.{IsSame, place_of}
 use Rattle.relative_path.specs.Unix.{has_root}
 use Rattle.relative_path.specs.Normalizing.{IsNormalTextOf}
 use Rattle.relative_path.specs.Relating.{Leads}
-use Rattle.relative_path.proofs.ForCallers.{IsSame-refl, IsSame-sym, IsSame-trans, IsSame-append_left, IsSame-append_right, IsReachable-same, IsShortestText-same, Leads-same, SpellThemselves-components, has_root-spell, components-trailing_slash}
+use Rattle.relative_path.proofs.ForCallers.{IsSame-refl, IsSame-sym, IsSame-trans, IsSame-append_left, IsSame-append_right, IsReachable-same, IsShortestText-same, Leads-same, SpellThemselves-components, has_root-spell, components-trailing_slash, components-pushed}
 use Rattle.relative_path.proofs.OnLiterals.{relative_path_on_literals}
 use Rattle.relative_path_places.specs.Places.{directory}
 use Rattle.relative_path_places.proofs.ForCallers.{IsNormalTextOf-same}
@@ -34,7 +34,7 @@ use Rattle.relative_path_links.specs.declared.site.SitePage.{SitePage}
 use Rattle.relative_path_links.specs.Targets.{target_text}
 use Rattle.relative_path_links.specs.Edits.{targets_of, change_text, edit_text, with_edits, is_new, IsSettled}
 use Rattle.relative_path_links.specs.Reading.{HasText}
-use Rattle.relative_path_links.specs.Rewriter.{Moving, moving, AtFile, StillLeads, AtLostFile, with_slash, IsNewPath, IsMovedTarget, LeavesPath, ChangesPath, unknown_change, ChangesBy, HasFileBy, Becomes}
+use Rattle.relative_path_links.specs.Rewriter.{Moving, moving, AtFile, StillLeads, AtLostFile, begins_with_dot, begins_with_up, with_slash, written_like, IsNewPath, IsMovedTarget, LeavesPath, ChangesPath, unknown_change, ChangesBy, HasFileBy, Becomes}
 use Rattle.relative_path_links.specs.Site.{ForMovedPage, LeadsOn, KeepsLinkBy, KeepsLink, StaysInPlace, StayInPlace, IsRewritten, KeepsLinks, moved_to, AreRewritten, KeepTheirLinks}
 use Rattle.relative_path_links.proofs.EditsLemmas.{with_edits-same}
 
@@ -144,22 +144,38 @@ module _ (m n : Moving) (same : HaveSame m n) where
 
 -- ---- what is written leads where the way leads
 
--- a way, with a slash at its end or without, is written so that it leads where the way leads
-IsSame-written : (path way : List ℕ) → way ≡ spell (components way)
-    → IsSame (components way) (components (path_written (with_slash path way)))
+-- a path without a slash at its start is written so that it leads where it leads itself, with a slash at its end too
+IsSame-with_slash : (path new : List ℕ) → has_root new ≡ false
+    → IsSame (components new) (components (path_written (with_slash path new)))
 unfolding relative_path_on_literals
-IsSame-written path [] spelled =
+IsSame-with_slash path [] no_slash =
     cond_both _ (slash ∷ []) [] (λ new. IsSame (components []) (components (path_written new)))
     (λ _. record { everywhere = λ base. refl }) (λ _. record { everywhere = λ base. refl })
-IsSame-written path (b ∷ bs) spelled =
+IsSame-with_slash path (b ∷ bs) no_slash =
     cond_both _ ((b ∷ bs) ++ slash ∷ []) (b ∷ bs) (λ new. IsSame (components (b ∷ bs)) (components (path_written new)))
     (λ _. rw (whole (bs ++ slash ∷ []), components-trailing_slash (b ∷ bs)) (IsSame-refl (components (b ∷ bs))))
     (λ _. rw (whole bs) (IsSame-refl (components (b ∷ bs)))) where
-      no_slash : has_root (b ∷ bs) ≡ false
-      no_slash = ap has_root spelled ∙ has_root-spell (components (b ∷ bs)) (SpellThemselves-components (b ∷ bs))
-
       whole : (rest : List ℕ) → path_written (b ∷ rest) ≡ b ∷ rest
       whole rest = rw no_slash refl
+
+-- `./` before a path without a slash at its start is one component more, which leads nowhere else
+components-dot : (way : List ℕ) → has_root way ≡ false → components (codes "./" ++ way) ≡ cur ∷ components way
+unfolding relative_path_on_literals
+components-dot [] no_slash = refl
+components-dot (b ∷ bs) no_slash =
+    ap (λ rest. components (codes "./" ++ rest)) (sym (cond-false _ _ _ no_slash)) ∙ components-pushed (codes ".") (b ∷ bs)
+
+-- a way is written so that it leads where it leads itself, with the `./` and the slash of the path too
+IsSame-written : (path way : List ℕ) → way ≡ spell (components way)
+    → IsSame (components way) (components (path_written (written_like path way)))
+IsSame-written path way spelled =
+    cond_both (begins_with_dot path && not (begins_with_up way)) (codes "./" ++ way) way
+    (λ new. IsSame (components way) (components (path_written (with_slash path new))))
+    (λ _. IsSame-trans (rw (components-dot way no_slash) (record { everywhere = λ base. refl }))
+    (IsSame-with_slash path (codes "./" ++ way) refl))
+    (λ _. IsSame-with_slash path way no_slash) where
+      no_slash : has_root way ≡ false
+      no_slash = ap has_root spelled ∙ has_root-spell (components way) (SpellThemselves-components way)
 
 -- ---- links, read again
 

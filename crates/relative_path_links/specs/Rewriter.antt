@@ -1,6 +1,7 @@
 -- What becomes of the targets of a page when files move, and of the page.
-use Rattle.std.specs.Prelude.{◌≡◌, ℕ, true, false, ◌&&◌, not, List, [], ◌∷◌, ◌++◌, length, drop, Option, None, IsSomeAnd, if◌then◌else◌, string_bytes}
-use Rattle.std.specs.List.{list_any}
+use Rattle.std.specs.Prelude.{◌≡◌, ℕ, Bool, true, false, ◌&&◌, ◌||◌, not, nat_eq, List, [], ◌∷◌, ◌++◌, codes, length, drop, Option, None, IsSomeAnd, if◌then◌else◌, string_bytes}
+use Rattle.std.specs.List.{starts_with, list_any}
+use Rattle.std.specs.Str.{bytes_eq}
 use Rattle.relative_path.specs.Steps.{Step, slash, components}
 use Rattle.relative_path.specs.Normalizing.{IsNormalTextOf}
 use Rattle.relative_path.specs.Relating.{Leads, IsReachable, IsShortestText}
@@ -41,16 +42,32 @@ StillLeads m path = AtFile m path (λ file. Leads m.after (components path) file
 abbrev pub AtLostFile : Moving → List ℕ → (List Step → Type 0) → Type 0
 AtLostFile m path P = AtFile m path (λ file. (¬ Leads m.after (components path) file) × P file)
 
+-- the old path begins with `./`
+abbrev pub begins_with_dot : List ℕ → Bool
+begins_with_dot path = starts_with nat_eq path (codes "./")
+
+-- the way begins with `..`: it is `..` or begins with `../`
+abbrev pub begins_with_up : List ℕ → Bool
+begins_with_up way = bytes_eq way (codes "..") || starts_with nat_eq way (codes "../")
+
+-- the way, with `./` before it if the path begins so and the way doesn't begin with `..`
+abbrev pub with_dot : List ℕ → List ℕ → List ℕ
+with_dot path way = if begins_with_dot path && not (begins_with_up way) then codes "./" ++ way else way
+
 -- the way, with a slash at its end if the path has one
 abbrev pub with_slash : List ℕ → List ℕ → List ℕ
 with_slash path way = if ends_in_slash path && not (ends_in_slash way) then way ++ slash ∷ [] else way
 
+-- the way, with the `./` and the slash of the path
+abbrev pub written_like : List ℕ → List ℕ → List ℕ
+written_like path way = with_slash path (with_dot path way)
+
 -- the path to write in place of a path that no longer leads to its file: the shortest path from the page's new directory
--- to the file, and a slash at its end if the old path has one
+-- to the file, with the `./` and the slash of the old path
 pub record IsNewPath (m : Moving) (path new : List ℕ) : Type 0 where
   pub way : List ℕ
   pub shortest : AtLostFile m path (BelowTop (λ file. IsShortestText m.after file way))
-  pub text : new ≡ with_slash path way
+  pub text : new ≡ written_like path way
 
 -- the text is a target for the new path in place of this one: the new path is written before the old tail, and a reader
 -- of the syntax takes the text as the new path
@@ -105,8 +122,8 @@ Becomes m page edit =
 abbrev pub IsChangeByWay : List ℕ → List ℕ → List ℕ → Change → Type 0
 IsChangeByWay path tail way Kept = ⊥
 IsChangeByWay path tail way (New text) =
-    (list_any is_nul (with_slash path way) ≡ false)
-    × (string_bytes text ≡ target_of (with_slash path way) ++ tail)
-    × IsTakenAs (target_of (with_slash path way))
-    (path_before (path_written (with_slash path way)) (length (target_of (with_slash path way))))
-IsChangeByWay path tail way (Left why) = (why ≡ Nul) × (list_any is_nul (with_slash path way) ≡ true)
+    (list_any is_nul (written_like path way) ≡ false)
+    × (string_bytes text ≡ target_of (written_like path way) ++ tail)
+    × IsTakenAs (target_of (written_like path way))
+    (path_before (path_written (written_like path way)) (length (target_of (written_like path way))))
+IsChangeByWay path tail way (Left why) = (why ≡ Nul) × (list_any is_nul (written_like path way) ≡ true)

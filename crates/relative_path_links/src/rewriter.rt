@@ -9,10 +9,13 @@ ghost use Rattle.relative_path_links.specs.Targets.{HasTarget, HasTargets};
 ghost use Rattle.relative_path_links.specs.Edits.{IsGivenUp, targets_of};
 ghost use Rattle.relative_path_links.specs.Rewriter.{
   Becomes,
+  begins_with_dot,
+  begins_with_up,
   ChangesPath,
   IsChangeByWay,
   moving,
   unknown_change,
+  with_dot,
   with_slash,
 };
 
@@ -35,11 +38,12 @@ use target_paths::{TargetReading, TargetSyntax, WhyUnknown, path_of_target, push
 /// Each target is read as a browser reads it, by [`path_of_target`]. A target that isn't a relative path is
 /// kept. So is a target whose path, as it is written, still leads to its file. The path of another becomes the
 /// shortest path to the file, written by [`target_of_path`](target_paths::target_of_path); a slash at its
-/// end, the query and the fragment stay. If there is no such path, the target is left as it is. A target whose
-/// meaning isn't known is left too, if the table has a move, since it may lead to what moved.
+/// end, the query and the fragment stay, and so does `./` at its start, unless the new path begins with `..`.
+/// If there is no such path, the target is left as it is. A target whose meaning isn't known is left too, if
+/// the table has a move, since it may lead to what moved.
 ///
-/// Allocates the list of edits, and for each target what [`path_of_target`] and [`TreeMoves::reference_in`] do, and
-/// its new text. The only error is lack of memory.
+/// Allocates the list of edits, and for each target what [`path_of_target`] and [`TreeMoves::reference_in`] do, its
+/// new text, and the new path if it begins with `./`. The only error is lack of memory.
 ///
 /// ```
 /// let moves = [("a.md", "docs/a.md"), ("my b.md", "docs/more/b.md")]
@@ -162,7 +166,7 @@ fn follow(
     }
 }
 
-// Returns the target for a way, with a slash at its end if the path has one, and then the tail.
+// Returns the target for a way, with the `./` and the slash of the path, and then the tail.
 fn new_target(
     alloc: Global,
     path: &str,
@@ -172,7 +176,8 @@ fn new_target(
     ensures change { IfOk result (IsChangeByWay path.now tail.now way.text) }
     ensures new { IfOk result (λ change. ¬ IsGivenUp change) }
 {
-    let new = with_slash(path, way.into_string())?;
+    let new = with_dot(alloc, path, way.into_string())?;
+    let new = with_slash(path, new)?;
     if has_nul(&new) {
         return Ok(Change::Left(Unchanged::Nul));
     }
@@ -180,6 +185,34 @@ fn new_target(
     push_target_of_path(&mut text, &new)?;
     text.push_str(tail)?;
     Ok(Change::New(text))
+}
+
+// Returns the way, with `./` before it if the path begins so and the way doesn't begin with `..`. Then it allocates once:
+// the text, with room for a slash.
+fn with_dot(alloc: Global, path: &str, way: String) -> Result<String, AllocError>
+    ensures { IfOk result (λ new. string_bytes new ≡ with_dot path.now (string_bytes way)) }
+{
+    if !begins_with_dot(path) || begins_with_up(&way) {
+        return Ok(way);
+    }
+    let mut new = String::with_capacity(alloc, way.len().saturating_add(3))?;
+    new.push_str("./")?;
+    new.push_str(&way)?;
+    Ok(new)
+}
+
+// Returns whether an old path begins with `./`.
+fn begins_with_dot(path: &str) -> bool
+    ensures { result ≡ begins_with_dot path.now }
+{
+    path.as_bytes().starts_with(b"./")
+}
+
+// Returns whether a way begins with `..`.
+fn begins_with_up(way: &str) -> bool
+    ensures { result ≡ begins_with_up way.now }
+{
+    way == ".." || way.as_bytes().starts_with(b"../")
 }
 
 // Returns the way, with a slash at its end if the path has one.

@@ -49,6 +49,36 @@ const LINKED: [(&str, &str); 11] = [
     ),
 ];
 
+// Pages with links that begin with `./`, or nearly so, and what they become.
+const DOTTED: [(&str, &str); 8] = [
+    ("[x](./sub/x.md) [x](sub/x.md)", "[x](./x.md) [x](x.md)"),
+    (
+        "[x](.//sub/x.md?q#f) [x](././sub/x.md)",
+        "[x](./x.md?q#f) [x](./x.md)",
+    ),
+    (
+        "[x](%2E/sub/x.md) [x](./../docs/sub/x.md)",
+        "[x](./x.md) [x](./x.md)",
+    ),
+    ("[x](../docs/sub/x.md)", "[x](x.md)"),
+    (
+        "[g](./sub/g/) [sub](./sub) [sub](./sub/)",
+        "[g](./g/) [sub](./) [sub](./)",
+    ),
+    (
+        "[c](./c.md) [docs](./) [docs](./.)",
+        "[c](../../e/f.md) [docs](../) [docs](..)",
+    ),
+    (
+        "[x](./sub/..x.md) [x](./sub/x:y.md)",
+        "[x](./..x.md) [x](./x:y.md)",
+    ),
+    (
+        "[x](<./sub/--->) <img src='./sub/+%20x.png'>",
+        "[x](<./--->) <img src='./+%20x.png'>",
+    ),
+];
+
 // Pages that stay as they are.
 const KEPT: [&str; 7] = [
     "",
@@ -145,6 +175,11 @@ fn all_become(
 #[test]
 fn moves_the_targets_of_links(rt: HostRuntime) -> Result<(), Fail> {
     all_become(rt.alloc(), &MOVES, "docs/a.md", &LINKED)
+}
+
+#[test]
+fn keeps_a_dot_and_a_slash_at_the_start(rt: HostRuntime) -> Result<(), Fail> {
+    all_become(rt.alloc(), &MOVES, "docs/a.md", &DOTTED)
 }
 
 #[test]
@@ -347,7 +382,7 @@ const SPELLED: [(&str, &str); 12] = [
     ("[i](../../issues)", "[i](../../issues)"),
     (
         "[c](./c.md) [d](x/../d.md)",
-        "[c](d%2520e.md) [d](x/../d.md)",
+        "[c](./d%2520e.md) [d](x/../d.md)",
     ),
     (
         "[c](c.md\\#c) [d](c.md&#35;d)",

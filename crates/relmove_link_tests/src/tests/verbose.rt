@@ -32,7 +32,7 @@ fn prints_targets_that_change(rt: HostRuntime) -> Result<(), Fail> {
         before: SOME,
         after: SOME,
         status: Status::Kept,
-        printed: "site/a.md: 2 links\nsite/a.md:1:5: b.md becomes d/b.md\nsite/a.md:2:17: ./b.md becomes d/b.md\n1 page would change, 1 file would move. Nothing is written: add --write.\n",
+        printed: "site/a.md: 2 links\nsite/a.md:1:5: b.md becomes d/b.md\nsite/a.md:2:17: ./b.md becomes ./d/b.md\n1 page would change, 1 file would move. Nothing is written: add --write.\n",
     };
     does(rt.alloc(), &row)
 }

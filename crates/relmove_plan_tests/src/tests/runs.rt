@@ -175,7 +175,7 @@ fn directories_to_which_links_lead(rt: HostRuntime) -> Result<(), Fail> {
             ("i/j", "j"),
         ],
         &[
-            ("a.md", "[here](d/e/)"),
+            ("a.md", "[here](./d/e/)"),
             ("d", "/"),
             ("d/e", "/"),
             ("h", "1"),
