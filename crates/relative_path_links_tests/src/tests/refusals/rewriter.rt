@@ -81,7 +81,7 @@ fn a_link_to_a_directory_that_moves(rt: HostRuntime) -> Result<(), Fail> {
     moved_by(rt.alloc(), &moves, "[c](c/x/#t)", "[c](../d%20e/x/#t)")
 }
 
-// Requests: 88 6 6 2s 4 6 7 9 8 = 3, 88 6 6 2s 4 8 7 = 3
+// Requests: 88 6 6 2s 4 7 7 9 8 = 3, 88 6 6 2s 4 8 7 = 3
 #[test]
 fn a_link_that_begins_with_a_dot_and_a_slash(rt: HostRuntime) -> Result<(), Fail> {
     let moves = [("c.md", "d/c.md")];
