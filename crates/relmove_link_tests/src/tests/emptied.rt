@@ -16,7 +16,7 @@ type Case = (
     (Status, &'static str),
 );
 
-const CASES: [Case; 6] = [
+const CASES: [Case; 7] = [
     (
         "its one file leaves",
         &[("d", None), ("d/a.txt", Some("aa"))],
@@ -66,6 +66,17 @@ const CASES: [Case; 6] = [
         &["--write", "site", "d/a.txt", "a.txt"],
         (Status::Kept, "0 pages changed, 1 file moved.\n"),
     ),
+    (
+        "a name that isn't UTF-8 stays below",
+        &[
+            ("d", None),
+            ("d/e", None),
+            ("d/e/NOT-UTF-8", Some("nn")),
+            ("d/a.txt", Some("aa")),
+        ],
+        &["--write", "site", "d/a.txt", "a.txt"],
+        (Status::Kept, "0 pages changed, 1 file moved.\n"),
+    ),
 ];
 
 // The page with the link.
@@ -79,6 +90,8 @@ fn names_links_to_directories_that_it_empties(rt: HostRuntime) -> Result<(), Fai
         let disk = disk_of(rt.alloc(), &site)?;
         let errors = if *case == "a name that isn't UTF-8 stays" {
             "relmove: a name in the directory d can't be read, or isn't UTF-8\n"
+        } else if *case == "a name that isn't UTF-8 stays below" {
+            "relmove: a name in the directory d/e can't be read, or isn't UTF-8\n"
         } else {
             ""
         };
