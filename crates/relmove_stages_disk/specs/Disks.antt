@@ -1,6 +1,9 @@
 -- What a disk in memory has, and what a crash may leave of it.
-use Rattle.std.specs.Prelude.{◌≡◌, ◌⊎◌, ◌+◌, ◌-◌, ◌^◌, ℕ, List, [], ◌∷◌, ◌++◌, drop, if◌then◌else◌, length, nat_lt}
+use Rattle.std.specs.Prelude.{◌≡◌, ◌⊎◌, ◌+◌, ◌-◌, ◌^◌, ℕ, List, [], ◌∷◌, ◌++◌, Vec, drop, if◌then◌else◌, length, map, nat_lt}
+use Rattle.std.specs.declared.alloc.Global.{Global}
 use mathlib.Core.Logic.{inl, inr}
+use Rattle.relmove_journal.specs.declared.work.TextFile.{TextFile}
+use Rattle.relmove_stages.specs.StageActions.{MayWrite, place_of}
 use Rattle.relmove_stages.specs.States.{Disk, State}
 use Rattle.relmove_stages_disk.specs.Entries.{entries_tree}
 use Rattle.relmove_stages_disk.specs.declared.disk.MemoryDisk.{MemoryDisk}
@@ -46,6 +49,20 @@ faults_after Refused faults = faults
 -- nothing changed, or the disk as it was is the last of the past
 abbrev pub GoesOn : Moment → List Moment → Moment → List Moment → Type 0
 GoesOn now past next past_next = ((next ≡ now) × (past_next ≡ past)) ⊎ (past_next ≡ past ++ now ∷ [])
+
+-- nothing changed, or a part of the text came first, or the whole of it came after the part
+abbrev pub WritesOn : TextFile → Moment → List Moment → Moment → List Moment → Type 0
+WritesOn text now past next past_next = (mid : Moment) × (between : List Moment) × GoesOn now past mid between
+    × GoesOn mid between next past_next × (mid.journal ≡ now.journal)
+    × MayWrite (place_of text.path) text.digest (disk_of now).tree (disk_of mid).tree
+
+-- the bytes of texts
+abbrev pub bytes_of : List (Vec ℕ Global) → List (List ℕ)
+bytes_of texts = map (λ text. text.items) texts
+
+-- the new texts that the disk writes
+abbrev pub texts_of : MemoryDisk → List (List ℕ)
+texts_of memory = bytes_of memory.texts.items
 
 none_after : (moments : List Moment) (disk : Disk) → Had (drop (length moments) moments) disk → ⊥
 none_after [] disk had = had
