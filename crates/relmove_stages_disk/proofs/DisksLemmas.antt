@@ -4,7 +4,10 @@ use Rattle.std.specs.List.{slice_get}
 use Rattle.std.specs.Prelude.{nat_lt}
 use Rattle.std.proofs.lemmas.Bool.{cases_lt}
 use Rattle.std.proofs.lemmas.Bool.Decides.{nat_tests}
-use Rattle.std.proofs.lemmas.List.{length-take-le, take_all}
+use Rattle.std.proofs.Common.{get_or}
+use Rattle.std.specs.Option.{option_map}
+use Rattle.std.proofs.lemmas.List.{length-map, length-take-le, take_all}
+use Rattle.std.proofs.lemmas.Option.{slice_get-map, slice_get_read, slice_get_within}
 use Rattle.std.specs.declared.alloc.Global.{Global}
 use Rattle.relmove_journal.specs.declared.text_digest.TextDigest.{TextDigest}
 use Rattle.relmove_journal.specs.declared.work.TextFile.{TextFile}
@@ -12,7 +15,7 @@ use Rattle.relmove_stages.specs.Runs.{CanWrite}
 use Rattle.relmove_stages.specs.StageActions.{Does, IsDone, IsPart, IsReady, IsText, MayDo, MayWrite, StageAction, place_of}
 use Rattle.relmove_stages.specs.States.{Disk, IsOneCall, Leaves}
 use Rattle.relmove_stages_disk.specs.Acting.{Answers, HasActed, HasWritten}
-use Rattle.relmove_stages_disk.specs.Disks.{GoesOn, Had, WritesOn, count_up, HadSince, disk_of, faults_after, only_now, state_of}
+use Rattle.relmove_stages_disk.specs.Disks.{GoesOn, Had, WritesOn, bytes_of, count_up, HadSince, disk_of, faults_after, only_now, state_of}
 use Rattle.relmove_stages_disk.specs.declared.disk.MemoryDisk.{MemoryDisk}
 use Rattle.relmove_stages_disk.specs.declared.entry.Entry.{Entry}
 use Rattle.relmove_stages_disk.specs.declared.fault.Fault.{Fault}
@@ -285,22 +288,48 @@ pub write_first : (text : TextFile) (bytes : List ℕ) (k : ℕ) (now mid : Mome
     → MayWrite (place_of text.path) text.digest (disk_of now).tree (disk_of mid).tree
 write_first text bytes k now mid is acts = inr (take k bytes, part_of text.digest bytes k is, acts)
 
--- a write that changed nothing, one that stopped after the part, and one that wrote all
+-- a write that changed nothing, and one that wrote a part first
 pub writes-none : (text : TextFile) (now next : Moment) (past past_next : List Moment) → next ≡ now → past_next ≡ past
     → WritesOn text now past next past_next
 writes-none text now next past past_next same same_2 =
     (now, past, inl (refl, refl), inl (same, same_2), refl, inl refl)
 
-pub writes-part : (text : TextFile) (bytes : List ℕ) (k : ℕ) (now next : Moment) (past past_next : List Moment)
-    → IsText text.digest bytes → next.journal ≡ now.journal
-    → (disk_of next).tree ≡ with_node (place_of text.path) (Some (File (take k bytes))) (disk_of now).tree
-    → past_next ≡ past ++ now ∷ [] → WritesOn text now past next past_next
-writes-part text bytes k now next past past_next is journal acts same =
-    (next, past_next, inr same, inl (refl, refl), journal, write_first text bytes k now next is acts)
-
-pub writes-all : (text : TextFile) (bytes : List ℕ) (k : ℕ) (now mid next : Moment) (past between past_next : List Moment)
+pub writes-on : (text : TextFile) (bytes : List ℕ) (k : ℕ) (now mid next : Moment) (past between past_next : List Moment)
     → IsText text.digest bytes → mid.journal ≡ now.journal
     → (disk_of mid).tree ≡ with_node (place_of text.path) (Some (File (take k bytes))) (disk_of now).tree
-    → between ≡ past ++ now ∷ [] → past_next ≡ between ++ mid ∷ [] → WritesOn text now past next past_next
-writes-all text bytes k now mid next past between past_next is journal acts same same_2 =
-    (mid, between, inr same, inr same_2, journal, write_first text bytes k now mid is acts)
+    → between ≡ past ++ now ∷ [] → GoesOn mid between next past_next → WritesOn text now past next past_next
+writes-on text bytes k now mid next past between past_next is journal acts same goes =
+    (mid, between, inr same, goes, journal, write_first text bytes k now mid is acts)
+
+-- ---- texts that can't be written
+
+-- past the last text there is none
+pub no_text : (texts : List (Vec ℕ Global)) (number : ℕ) (text : TextFile) (tree : Tree) → length texts ≤ number
+    → CanWrite (bytes_of texts) number text tree → ⊥
+no_text texts number text tree past (takes, bytes, at, is) =
+    let within = slice_get_within (bytes_of texts) number bytes at in
+    let long = length-map texts (λ text. text.items) in
+    absurd (omega (arith, past, within, long))
+
+-- the bytes of this number
+pub text_at : (texts : List (Vec ℕ Global)) (number : ℕ) (bytes : Vec ℕ Global) → number < length texts
+    → bytes ≡ get_or texts number bytes → slice_get (bytes_of texts) number ≡ Some bytes.items
+text_at texts number bytes within is =
+    slice_get-map (λ text. text.items) texts number
+    ∙ ap (option_map (λ text. text.items)) (slice_get_read texts (length texts) number bytes refl within is)
+
+pub other_text : (texts : List (List ℕ)) (number : ℕ) (bytes : List ℕ) (text : TextFile) (tree : Tree)
+    → slice_get texts number ≡ Some bytes → ¬ IsText text.digest bytes → CanWrite texts number text tree → ⊥
+other_text texts number bytes text tree at not (takes, other, at_2, is) =
+    let same : other ≡ bytes = cc (sym at_2 ∙ at) in
+    not (subst (IsText text.digest) same is)
+
+-- what a write returned
+pub has_written : {T : Type 0} (texts : List (List ℕ)) (number : ℕ) (text : TextFile) (bytes : List ℕ) (old new : Tree)
+    (result : Result T Fault) → slice_get texts number ≡ Some bytes → IsText text.digest bytes
+    → OnOk result (Acts (Write (place_of text.path) bytes) old new) → MayWrite (place_of text.path) text.digest old new
+    → IfErr result (λ fault. fault ≡ Refused → ⊥) → HasWritten texts number text old new result
+has_written texts number text bytes old new (Ok done) at is acts may not = (bytes, at, is, acts)
+has_written texts number text bytes old new (Err Failed) at is acts may not = may
+has_written texts number text bytes old new (Err OutOfMemory) at is acts may not = may
+has_written texts number text bytes old new (Err Refused) at is acts may not = absurd (not refl)

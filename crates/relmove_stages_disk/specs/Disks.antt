@@ -1,5 +1,5 @@
 -- What a disk in memory has, and what a crash may leave of it.
-use Rattle.std.specs.Prelude.{◌≡◌, ◌⊎◌, ◌+◌, ◌-◌, ◌^◌, ℕ, List, [], ◌∷◌, ◌++◌, Vec, drop, if◌then◌else◌, length, map, nat_lt}
+use Rattle.std.specs.Prelude.{◌≡◌, ◌⊎◌, ◌+◌, ◌-◌, ◌^◌, ◌≤◌, IsTrue, refl, ℕ, List, [], ◌∷◌, ◌++◌, Vec, drop, if◌then◌else◌, length, map, nat_lt}
 use Rattle.std.specs.declared.alloc.Global.{Global}
 use mathlib.Core.Logic.{inl, inr}
 use Rattle.relmove_journal.specs.declared.work.TextFile.{TextFile}
@@ -73,3 +73,12 @@ pub only_now : (memory : MemoryDisk) (disk : Disk) → HadSince memory (length m
     → HadSince memory memory.durable disk
 only_now memory disk (inl now) = inl now
 only_now memory disk (inr had) = absurd (none_after memory.past.items disk had)
+
+-- a crash may leave what is there now
+pub leaves_now : (memory : MemoryDisk) → IsTrue (state_of memory).is_clean → HadSince memory memory.durable (disk_of memory.now)
+leaves_now memory clean = inl refl
+
+-- and so it may since any moment
+pub counts_now : (memory : MemoryDisk) (t : ℕ) → IsTrue (state_of memory).is_clean → t ≤ (state_of memory).moment
+    → HadSince memory t (disk_of memory.now)
+counts_now memory t clean before = inl refl

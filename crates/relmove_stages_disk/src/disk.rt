@@ -6,7 +6,7 @@ ghost use Rattle.relmove_journal.specs.declared.work.Stage.TheVariants.{Writing}
 ghost use Rattle.relmove_stages.specs.StageActions.{IsText, MayWrite, action_of, place_of};
 ghost use Rattle.relmove_stages_disk.specs.Acting.{HasActed, HasWritten};
 ghost use Rattle.relmove_stages_disk.specs.Entries.{entries_tree, node_at};
-ghost use Rattle.relmove_stages_disk.specs.Disks.{GoesOn, WritesOn, bytes_of, count_up, disk_of, faults_after, only_now, state_of, texts_of};
+ghost use Rattle.relmove_stages_disk.specs.Disks.{GoesOn, WritesOn, bytes_of, count_up, counts_now, disk_of, faults_after, leaves_now, only_now, state_of, texts_of};
 ghost use Rattle.relmove_stages_disk.specs.declared.fault.Fault.TheVariants.{Failed, Refused};
 
 use crate::actions::entries_after;
@@ -421,10 +421,10 @@ impl Executor for MemoryDisk {
     }
 
     // a crash may leave what is there
-    ghost leaves_now = { λ memory clean. inl refl };
+    ghost leaves_now = { leaves_now };
 
     // what is there might be left since this moment, and since each before
-    ghost counts_now = { λ memory t clean before. inl refl };
+    ghost counts_now = { counts_now };
 
     // since this moment there is no other
     ghost only_now = { only_now };

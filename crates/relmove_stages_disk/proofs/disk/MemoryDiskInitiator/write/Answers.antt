@@ -4,7 +4,7 @@ use Rattle.relmove_stages.specs.Runs.{CanWrite}
 use Rattle.relmove_stages.specs.StageActions.{MayWrite, place_of}
 use Rattle.relmove_stages_disk.proofs.DisksLemmas.{HasWritten-may, HasWritten-refused, HasWritten-written, has_cause, no_less, write_call}
 use Rattle.relmove_stages_disk.specs.Acting.{HasWritten}
-use Rattle.relmove_stages_disk.specs.Disks.{texts_of}
+use Rattle.relmove_stages_disk.specs.Disks.{bytes_of, texts_of}
 use Rattle.relmove_stages_disk.specs.Entries.{entries_tree}
 use Rattle.relmove_stages_disk.proofs.disk.MemoryDiskInitiator.write.Goals as goal
 
@@ -19,14 +19,18 @@ returns-clause-written c =
     (subst (λ r. HasWritten (texts_of c.args.self.now) c.args.number c.args.text.now
     (entries_tree c.args.self.now.now.entries.items)
     (entries_tree c.try_write-outcome.new.now.entries.items) r)
-    (sym c.counted.ensures.outcome) c.try_write-outcome.ensures.written)
+    (sym c.counted.ensures.outcome) (subst (λ texts. HasWritten (bytes_of texts) c.args.number c.args.text.now (entries_tree c.args.self.now.now.entries.items)
+    (entries_tree c.try_write-outcome.new.now.entries.items) c.try_write-outcome.result) c.deref.ensures.value
+    c.try_write-outcome.ensures.written))
 
 pub returns-clause-outcome : goal.returns-clause-outcome
 returns-clause-outcome c =
     λ clean.
     HasWritten-may (texts_of c.args.self.now) c.args.number c.args.text.now (entries_tree c.args.self.now.now.entries.items)
     (entries_tree c.try_write-outcome.new.now.entries.items)
-    c.try_write-outcome.result c.try_write-outcome.ensures.written
+    c.try_write-outcome.result (subst (λ texts. HasWritten (bytes_of texts) c.args.number c.args.text.now (entries_tree c.args.self.now.now.entries.items)
+    (entries_tree c.try_write-outcome.new.now.entries.items) c.try_write-outcome.result) c.deref.ensures.value
+    c.try_write-outcome.ensures.written)
 
 pub returns-clause-journal : goal.returns-clause-journal
 returns-clause-journal c = λ clean. c.try_write-outcome.ensures.journal
@@ -48,7 +52,9 @@ returns-clause-crash c =
       c.try_write-outcome.ensures.journal,
       HasWritten-may (texts_of c.args.self.now) c.args.number c.args.text.now (entries_tree c.args.self.now.now.entries.items)
           (entries_tree c.try_write-outcome.new.now.entries.items)
-          c.try_write-outcome.result c.try_write-outcome.ensures.written,
+          c.try_write-outcome.result (subst (λ texts. HasWritten (bytes_of texts) c.args.number c.args.text.now (entries_tree c.args.self.now.now.entries.items)
+          (entries_tree c.try_write-outcome.new.now.entries.items) c.try_write-outcome.result) c.deref.ensures.value
+          c.try_write-outcome.ensures.written),
     )
 
 pub returns-clause-cause : goal.returns-clause-cause
@@ -59,4 +65,6 @@ returns-clause-cause c =
     (λ is can. HasWritten-refused (texts_of c.args.self.now) c.args.number c.args.text.now
     (entries_tree c.args.self.now.now.entries.items)
     (entries_tree c.try_write-outcome.new.now.entries.items)
-    c.try_write-outcome.result c.try_write-outcome.ensures.written (sym c.counted.ensures.outcome ∙ is) can)
+    c.try_write-outcome.result (subst (λ texts. HasWritten (bytes_of texts) c.args.number c.args.text.now (entries_tree c.args.self.now.now.entries.items)
+    (entries_tree c.try_write-outcome.new.now.entries.items) c.try_write-outcome.result) c.deref.ensures.value
+    c.try_write-outcome.ensures.written) (sym c.counted.ensures.outcome ∙ is) can)
