@@ -120,6 +120,33 @@ fn begun(rt: &impl Abort, alloc: Global, work: &Work, failure: Failure) -> Resul
     Ok(trial)
 }
 
+// The last call is the one of this number.
+#[test]
+fn makes_no_more_calls(rt: HostRuntime) -> Result<(), Fail> {
+    let work = work(rt.alloc())?;
+    let last = Failure {
+        calls: ALL_CALLS - 1,
+        failing: Failing::Before,
+        is_kill: false,
+    };
+    let mut trial = first(rt.alloc(), Some(last))?;
+    assert!(rt;
+        matches!(&carry_out_trial(&mut trial, &work), Err(Halt::Stopped(_))),
+        "the last call fails"
+    );
+    let mut trial = first(rt.alloc(), None)?;
+    trial.disk.fail(Some(Failure {
+        calls: ALL_CALLS,
+        failing: Failing::Before,
+        is_kill: false,
+    }));
+    assert!(rt;
+        carry_out_trial(&mut trial, &work).is_ok(),
+        "no call comes after it"
+    );
+    Ok(())
+}
+
 // Whether a run ended in one of its two trees, and has no journal.
 fn has_ended(trial: &Trial) -> bool {
     trial.disk.journal() == None && (has(&trial.disk, BEFORE) || has(&trial.disk, AFTER))
