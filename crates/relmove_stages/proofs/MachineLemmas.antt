@@ -1,5 +1,5 @@
 -- The calls of a run, one after another.
-use Rattle.std.proofs.Common.{◌≡◌, ◌⊎◌, ◌<◌, ◌≤◌, ℕ, suc, Some, None, length, arith, refl, sym, subst, Result, Ok, Err, OnErr, OnOk}
+use Rattle.std.proofs.Common.{◌≡◌, ◌⊎◌, inl, inr, ◌∙◌, ◌<◌, ◌≤◌, ℕ, Option, suc, Some, None, length, arith, refl, sym, subst, Result, Ok, Err, OnErr, OnOk}
 use Rattle.std.specs.List.{slice_get}
 use Rattle.relmove_journal.specs.declared.work.Stage.{Stage}
 use Rattle.relmove_journal.specs.declared.work.Work.{Work}
@@ -23,6 +23,11 @@ on_ok-map P Q (Err e) to p = tt
 pub on_err-map : {A E : Type 0} (P Q : Type 0) (r : Result A E) → (P → Q) → OnErr r P → OnErr r Q
 on_err-map P Q (Ok x) to p = tt
 on_err-map P Q (Err e) to p = to p
+
+-- after a journal was put in the place of another there is one
+pub put-there : (old new : Option Stage) (stage next : Stage) → old ≡ Some stage → (new ≡ old) ⊎ (new ≡ Some next) → new ≡ None → ⊥
+put-there old new stage next at (inl same) none = cc (sym none ∙ same ∙ at)
+put-there old new stage next at (inr put) none = cc (sym none ∙ put)
 
 -- the first i actions of the stage are done, and maybe more
 abbrev pub IsStageReached : Work → Trees → Stage → ℕ → Tree → Type 0

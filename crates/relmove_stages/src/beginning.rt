@@ -1,7 +1,7 @@
 //! A whole run, from its begin.
 ghost use Rattle.std.specs.Prelude.{◌≡◌, ◌<◌, ℕ, Some, None, IsTrue, IfErr, OnOk, OnErr};
 ghost use Rattle.relmove_journal.specs.declared.work.Stage.TheVariants.{Staging, Writing};
-ghost use Rattle.relmove_stages.specs.Halts.{IsRefused};
+ghost use Rattle.relmove_stages.specs.Halts.{GoesBack, IsRefused};
 ghost use Rattle.relmove_stages.specs.Runs.{CanInitiate, Guards, IsAllDone, IsAtStage, IsOnTheWay, Leads, Trees};
 ghost use Rattle.relmove_stages.specs.Stages.{stage_back};
 ghost use Rattle.relmove_stages.specs.States.{Disk};
@@ -16,7 +16,7 @@ use relmove_journal::{Stage, Work};
 pub enum Halt<F: Drop> {
     /// The run is taken back: the tree is the one before, and no journal is there.
     Refused(F),
-    /// The run was to be taken back from its begin, and a call failed there too.
+    /// The run moved nothing, and was to be taken back, but a call failed there too. Without a journal it is taken back.
     Left(F),
     /// The run stopped in the middle.
     Stopped(F),
@@ -40,6 +40,9 @@ pub fn carry_out<E: Initiator>(executor: &mut E, work: &Work) -> Result<(), Halt
     // the tree is the one before
     ensures returns { IfErr result (λ halt. IsRefused halt → IsTrue (E.state executor.new).is_clean
         → ((E.state executor.new).disk.journal ≡ None) × ((E.state executor.new).disk.tree ≡ trees.before)) }
+    // without a journal the tree is the one before, unless the run stopped in the middle
+    ensures whole { IfErr result (λ halt. GoesBack halt → IsTrue (E.state executor.new).is_clean
+        → (E.state executor.new).disk.journal ≡ None → (E.state executor.new).disk.tree ≡ trees.before) }
     // after a failure too the first actions of the journal's stage are done, and no other
     ensures guards { IsTrue (E.state executor.new).is_clean
         → Guards work.now trees (E.state executor.old) (E.state executor.new) }
@@ -93,6 +96,8 @@ fn go_on<E: Executor>(executor: &mut E, work: &Work) -> Result<(), Halt<E::Fault
         × IsAllDone work.now trees (E.state executor.new).disk.tree) }
     ensures returns { IfErr result (λ halt. IsRefused halt → IsTrue (E.state executor.new).is_clean
         → ((E.state executor.new).disk.journal ≡ None) × ((E.state executor.new).disk.tree ≡ trees.before)) }
+    ensures whole { IfErr result (λ halt. GoesBack halt → IsTrue (E.state executor.new).is_clean
+        → (E.state executor.new).disk.journal ≡ None → (E.state executor.new).disk.tree ≡ trees.before) }
     ensures guards { IsTrue (E.state executor.new).is_clean
         → Guards work.now trees (E.state executor.old) (E.state executor.new) }
     ensures cause { OnErr result (IsTrue (E.state executor.new).is_clean
@@ -115,6 +120,8 @@ fn erase<E: Executor>(executor: &mut E, work: &Work, fault: E::Fault) -> Halt<E:
     requires tree { IsTrue (E.state executor.old).is_clean → (E.state executor.old).disk.tree ≡ trees.written }
     ensures returns { IsRefused result → IsTrue (E.state executor.new).is_clean
         → ((E.state executor.new).disk.journal ≡ None) × ((E.state executor.new).disk.tree ≡ trees.before) }
+    ensures whole { GoesBack result → IsTrue (E.state executor.new).is_clean
+        → (E.state executor.new).disk.journal ≡ None → (E.state executor.new).disk.tree ≡ trees.before }
     ensures guards { IsTrue (E.state executor.new).is_clean
         → Guards work.now trees (E.state executor.old) (E.state executor.new) }
 {
@@ -138,6 +145,8 @@ fn take_back<E: Executor>(
     requires tree { IsTrue (E.state executor.old).is_clean → IsAtStage work.now trees stage (E.state executor.old).disk.tree }
     ensures returns { IsRefused result → IsTrue (E.state executor.new).is_clean
         → ((E.state executor.new).disk.journal ≡ None) × ((E.state executor.new).disk.tree ≡ trees.before) }
+    ensures whole { GoesBack result → IsTrue (E.state executor.new).is_clean
+        → (E.state executor.new).disk.journal ≡ None → (E.state executor.new).disk.tree ≡ trees.before }
     ensures guards { IsTrue (E.state executor.new).is_clean
         → Guards work.now trees (E.state executor.old) (E.state executor.new) }
 {
@@ -154,6 +163,8 @@ fn end_at_once<E: Executor>(executor: &mut E, work: &Work, fault: E::Fault) -> H
     requires tree { IsTrue (E.state executor.old).is_clean → (E.state executor.old).disk.tree ≡ trees.before }
     ensures returns { IsRefused result → IsTrue (E.state executor.new).is_clean
         → ((E.state executor.new).disk.journal ≡ None) × ((E.state executor.new).disk.tree ≡ trees.before) }
+    ensures whole { GoesBack result → IsTrue (E.state executor.new).is_clean
+        → (E.state executor.new).disk.journal ≡ None → (E.state executor.new).disk.tree ≡ trees.before }
     ensures guards { IsTrue (E.state executor.new).is_clean
         → Guards work.now trees (E.state executor.old) (E.state executor.new) }
 {

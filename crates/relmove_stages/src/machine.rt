@@ -62,6 +62,9 @@ pub fn finish<E: Executor>(executor: &mut E, work: &Work, stage: Stage) -> Resul
     // all actions are done, or, on the way back, the tree is the one before
     ensures ends { OnOk result (IsTrue (E.state executor.new).is_clean → ((E.state executor.new).disk.journal ≡ None)
         × EndsFrom work.now trees stage (E.state executor.new).disk.tree) }
+    // without a journal all actions are done, or, on the way back, the tree is the one before
+    ensures whole { IsTrue (E.state executor.new).is_clean → (E.state executor.new).disk.journal ≡ None
+        → EndsFrom work.now trees stage (E.state executor.new).disk.tree }
     // after a failure too the first actions of the journal's stage are done, and no other
     ensures guards { IsTrue (E.state executor.new).is_clean
         → Guards work.now trees (E.state executor.old) (E.state executor.new) }
