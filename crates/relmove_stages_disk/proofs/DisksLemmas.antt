@@ -14,10 +14,9 @@ use Rattle.relmove_journal.specs.declared.work.TextFile.{TextFile}
 use Rattle.relmove_stages.specs.Runs.{CanWrite}
 use Rattle.relmove_stages.specs.StageActions.{Does, IsDone, IsPart, IsReady, IsText, MayDo, MayWrite, StageAction, place_of}
 use Rattle.relmove_stages.specs.States.{Disk, IsOneCall, Leaves}
-use Rattle.relmove_stages_disk.specs.Acting.{Answers, HasActed, HasWritten}
+use Rattle.relmove_stages_disk.specs.Acting.{HasActed, HasWritten}
 use Rattle.relmove_stages_disk.specs.Disks.{GoesOn, Had, WritesOn, bytes_of, count_up, HadSince, disk_of, faults_after, only_now, state_of}
 use Rattle.relmove_stages_disk.specs.declared.disk.MemoryDisk.{MemoryDisk}
-use Rattle.relmove_stages_disk.specs.declared.entry.Entry.{Entry}
 use Rattle.relmove_stages_disk.specs.declared.fault.Fault.{Fault}
 use Rattle.relmove_stages_disk.specs.declared.fault.Fault.TheVariants.{Failed, OutOfMemory, Refused}
 use Rattle.relmove_stages_disk.specs.declared.moment.Moment.{Moment}

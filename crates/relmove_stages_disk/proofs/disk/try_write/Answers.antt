@@ -1,4 +1,4 @@
-use Rattle.std.proofs.Common.{IsTrue, Some, arith, false, length, refl, rules, subst, sym, true≢false, ◌≡◌, ◌∙◌, ◌≤◌, ◌<◌}
+use Rattle.std.proofs.Common.{IsTrue, Some, arith, false, refl, rules, subst, sym, true≢false, ◌≡◌, ◌∙◌}
 use Rattle.std.specs.List.{slice_get}
 use Rattle.relmove_stages.specs.StageActions.{IsText}
 use Rattle.relmove_stages_disk.proofs.DisksLemmas.{has_written, no_text, other_text, text_at, writes-none}

@@ -1,4 +1,4 @@
-use Rattle.std.proofs.Common.{IsTrue, inl, inr, refl, subst, sym, ◌∙◌, ◌≡◌, ◌-◌, ◌^◌}
+use Rattle.std.proofs.Common.{IsTrue, inl, refl, subst, sym, ◌∙◌, ◌≡◌, ◌-◌, ◌^◌}
 use Rattle.std.specs.Prelude.{nat_lt}
 use Rattle.relmove_stages.specs.Runs.{CanWrite}
 use Rattle.relmove_stages.specs.StageActions.{MayWrite, place_of}
