@@ -2,7 +2,17 @@
 ghost use Rattle.std.specs.Prelude.{◌≡◌, false};
 
 use relmove_journal::{Stage, Work};
-use relmove_stages::{Executor, finish, turn_back};
+use relmove_stages::{Executor, Halt, Initiator, carry_out, finish, turn_back};
+
+// Carries out a run.
+pub(crate) fn carry_out_stages<E: Initiator>(
+    executor: &mut E,
+    work: &Work,
+) -> Result<(), Halt<E::Fault>>
+    requires { (E.state executor.old).is_clean ≡ false }
+{
+    carry_out(executor, work)
+}
 
 // Does what is left of a stage and of those after it, and ends the run.
 pub(crate) fn finish_stages<E: Executor>(

@@ -8,10 +8,10 @@ use crate::run_files::{
     Trust, find_journal, need_no_run_files, none_yet, remove_leftovers, run_files_of,
 };
 use crate::staging_names::with_staging_names;
-use crate::worker::Worker;
+use crate::worker::{NewRun, Worker};
 use relmove_actions::{Actions, NewText, Rename};
 use relmove_journal::{JOURNAL, Journal, Leftover, Stage, TextDigest, TextFile, Work, is_of_run};
-use relmove_stages::Executor;
+use relmove_stages::Halt;
 use relmove_store::{Change, Found, PageFile, Remark, RunFault, Store, SystemCall, at};
 use std::alloc::{AllocError, Global};
 use std::collections::BTreeMap;
@@ -115,9 +115,14 @@ pub fn carry_out<S: Store + Drop>(
         Ok(prepared) => prepared,
         Err(fault) => return Ended::Refused(fault),
     };
-    match begin(worker, &work, &changes, directories) {
-        Ok(worker) => go_on_or_back(worker, &work),
-        Err(ended) => ended,
+    let mut run = NewRun::new(worker, &changes, directories);
+    let outcome = run.carry_out(&work);
+    let worker = run.into_worker();
+    match outcome {
+        Ok(()) => Ended::Done(worker.into_remarks()),
+        Err(Halt::Refused(fault)) => refusal(fault, worker.into_remarks()),
+        Err(Halt::Left(fault)) => leave(worker, fault),
+        Err(Halt::Stopped(fault)) => stop_or_go_back(worker, &work, fault),
     }
 }
 
@@ -223,22 +228,6 @@ fn turn_back<S: Store + Drop>(
     }
 }
 
-// Does everything up to the first rename.
-fn begin<S: Store + Drop>(
-    mut worker: Worker<S>,
-    work: &Work,
-    changes: &[PageChange],
-    directories: &[&str],
-) -> Result<Worker<S>, Ended> {
-    if let Err(fault) = write_texts(&mut worker, work, changes, directories) {
-        return Err(refuse(worker, work, fault));
-    }
-    if let Err(fault) = worker.enter(work, Stage::Staging) {
-        return Err(refuse_staging(worker, work, fault));
-    }
-    Ok(worker)
-}
-
 // The run, before it writes anything.
 fn prepare<S: Store + Drop>(
     locked: Locked<S>,
@@ -342,30 +331,9 @@ fn cleaned_of(
     Ok(cleaned)
 }
 
-// Writes the journal and the new texts. Of two runs that begin at once, in a directory and in one above it, at least one
-// sees the other's journal.
-fn write_texts<S: Store + Drop>(
-    worker: &mut Worker<S>,
-    work: &Work,
-    changes: &[PageChange],
-    directories: &[&str],
-) -> Result<(), RunFault> {
-    worker.begin(work)?;
-    worker.look_near(directories)?;
-    worker.write_texts(changes)
-}
-
-// Takes back what was done, if the journal may say that things get staging names.
-fn refuse_staging<S: Store + Drop>(mut worker: Worker<S>, work: &Work, fault: RunFault) -> Ended {
-    if worker.enter(work, Stage::Erasing).is_err() {
-        return stop(worker, fault);
-    }
-    refuse(worker, work, fault)
-}
-
-// Takes back what was done.
-fn refuse<S: Store + Drop>(mut worker: Worker<S>, work: &Work, fault: RunFault) -> Ended {
-    if worker.finish(work).is_err() && may_have_journal(&mut worker) {
+// The run couldn't take back what it did before anything moved.
+fn leave<S: Store + Drop>(mut worker: Worker<S>, fault: RunFault) -> Ended {
+    if may_have_journal(&mut worker) {
         return stop(worker, fault);
     }
     refusal(fault, worker.into_remarks())
@@ -423,8 +391,15 @@ fn open<S: Store + Drop>(
 fn go_on_or_back<S: Store + Drop>(mut worker: Worker<S>, work: &Work) -> Ended {
     match worker.finish(work) {
         Ok(()) => Ended::Done(worker.into_remarks()),
-        Err(RunFault::Changed(page)) => turn_back(worker, work, Some(RunFault::Changed(page))),
-        Err(fault) => stop(worker, fault),
+        Err(fault) => stop_or_go_back(worker, work, fault),
+    }
+}
+
+// Stops, or goes back if a page was changed before it got its staging name.
+fn stop_or_go_back<S: Store + Drop>(worker: Worker<S>, work: &Work, fault: RunFault) -> Ended {
+    match fault {
+        RunFault::Changed(page) => turn_back(worker, work, Some(RunFault::Changed(page))),
+        fault => stop(worker, fault),
     }
 }
 

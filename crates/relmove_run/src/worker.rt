@@ -1,12 +1,13 @@
 //! Does the work of a run, from any stage on. Each action asks first whether it is done.
-ghost use Rattle.relmove_stages.specs.States.{unknown};
+ghost use Rattle.std.specs.Prelude.{[]};
+ghost use Rattle.relmove_stages.specs.States.{not_clean, unknown};
 
 use crate::disk::{
     Above, PageChange, RunFile, Written, are_names_of_one_file, carry, copy_of, digest_at,
     digest_of_found, find, find_to_remove, is_there, make_directory, need_run_directory,
     remove_directory, remove_file, unmake_directory, write_text,
 };
-use crate::machine::{finish_stages, turn_stages_back};
+use crate::machine::{carry_out_stages, finish_stages, turn_stages_back};
 use crate::near::look_near;
 use crate::run_files::{
     RunFiles, make_run_directory, need_untaken, put_first, put_next, remove_all, take_directory,
@@ -14,7 +15,7 @@ use crate::run_files::{
 use crate::synced::{remove_left_names, sync_stage};
 use relmove_actions::Rename;
 use relmove_journal::{Leftover, Stage, TextDigest, TextFile, Work};
-use relmove_stages::{Action, Executor};
+use relmove_stages::{Action, Executor, Halt, Initiator};
 use relmove_store::{Found, FoundKind, Remark, RunFault, Store};
 use std::alloc::AllocError;
 use std::io::ErrorKind;
@@ -98,7 +99,7 @@ impl<S: Store + Drop> Worker<S> {
     }
 
     // Makes the run's own directory, and puts the first journal in its place.
-    pub(crate) fn begin(&mut self, work: &Work) -> Result<(), RunFault> {
+    fn begin(&mut self, work: &Work) -> Result<(), RunFault> {
         let inode = make_run_directory(&mut self.store, &mut self.files)?;
         self.above.set_run_directory(inode);
         put_first(&mut self.store, &mut self.files, work)
@@ -106,7 +107,7 @@ impl<S: Store + Drop> Worker<S> {
 
     // Fails if a directory above the root, or one of these below it, has another journal of the user whose run this is. Notes
     // those of other users.
-    pub(crate) fn look_near(&mut self, directories: &[&str]) -> Result<(), RunFault> {
+    fn look_near(&mut self, directories: &[&str]) -> Result<(), RunFault> {
         let user = self.files.owner();
         look_near(&mut self.store, directories, user, &mut self.remarks)
     }
@@ -116,15 +117,12 @@ impl<S: Store + Drop> Worker<S> {
         take_directory(&mut self.store, &mut self.above, &mut self.files)
     }
 
-    // Writes the new texts.
-    pub(crate) fn write_texts(&mut self, changes: &[PageChange]) -> Result<(), RunFault> {
-        for change in changes {
-            let mut written = Written::NONE;
-            let outcome = write_text(&mut self.store, &mut self.above, change, &mut written);
-            self.written.push(written)?;
-            outcome?;
-        }
-        Ok(())
+    // Writes a new text.
+    fn write_text(&mut self, change: &PageChange) -> Result<(), RunFault> {
+        let mut written = Written::NONE;
+        let outcome = write_text(&mut self.store, &mut self.above, change, &mut written);
+        self.written.push(written)?;
+        outcome
     }
 
     // Does what is left of the run's stage and of those after it, and ends the run. At the stages `writing` and `erasing`
@@ -154,6 +152,10 @@ impl<S: Store + Drop> Executor for Worker<S> {
 
     // Of real files nothing is known.
     ghost state = { λ _. unknown };
+
+    ghost leaves_now = { λ _ clean. not_clean clean };
+
+    ghost counts_now = { λ _ _ clean _. not_clean clean };
 
     ghost only_now = { λ _ _ left. left };
 
@@ -206,6 +208,93 @@ impl<S: Store + Drop> Executor for Worker<S> {
     fn end(&mut self, work: &Work) -> Result<(), RunFault> {
         sync_stage(&mut self.store, work, self.stage)?;
         remove_all(&mut self.store, &mut self.files, &mut self.remarks)
+    }
+}
+
+// A run that begins.
+#[derive(Drop)]
+pub(crate) struct NewRun<'a, S: Drop> {
+    worker: Worker<S>,
+    // What the new texts are, and which pages they change.
+    changes: &'a [PageChange],
+    // The directories below the root in which other runs may have journals.
+    directories: &'a [&'a str],
+}
+
+impl<'a, S: Store + Drop> NewRun<'a, S> {
+    // A run that does this.
+    pub(crate) fn new(
+        worker: Worker<S>,
+        changes: &'a [PageChange],
+        directories: &'a [&'a str],
+    ) -> NewRun<'a, S> {
+        NewRun {
+            worker,
+            changes,
+            directories,
+        }
+    }
+
+    // Carries the run out.
+    pub(crate) fn carry_out(&mut self, work: &Work) -> Result<(), Halt<RunFault>> {
+        carry_out_stages(self, work)
+    }
+
+    // The run, after it began.
+    pub(crate) fn into_worker(self) -> Worker<S> {
+        self.worker
+    }
+}
+
+impl<S: Store + Drop> Executor for NewRun<'_, S> {
+    type Fault = RunFault;
+
+    // Of real files nothing is known.
+    ghost state = { λ _. unknown };
+
+    ghost leaves_now = { λ _ clean. not_clean clean };
+
+    ghost counts_now = { λ _ _ clean _. not_clean clean };
+
+    ghost only_now = { λ _ _ left. left };
+
+    fn prepare(&mut self, work: &Work, stage: Stage) -> Result<(), RunFault> {
+        self.worker.prepare(work, stage)
+    }
+
+    fn act(&mut self, work: &Work, action: Action<'_>) -> Result<(), RunFault> {
+        self.worker.act(work, action)
+    }
+
+    fn complete(&mut self, work: &Work, stage: Stage) -> Result<(), RunFault> {
+        self.worker.complete(work, stage)
+    }
+
+    fn enter(&mut self, work: &Work, stage: Stage) -> Result<(), RunFault> {
+        self.worker.enter(work, stage)
+    }
+
+    fn end(&mut self, work: &Work) -> Result<(), RunFault> {
+        self.worker.end(work)
+    }
+}
+
+impl<S: Store + Drop> Initiator for NewRun<'_, S> {
+    ghost texts = { λ _. [] };
+
+    // Puts the first journal in its place. Of two runs that begin at once, in a directory and in one above it, at least one
+    // sees the other's journal.
+    fn begin(&mut self, work: &Work) -> Result<(), RunFault> {
+        self.worker.begin(work)?;
+        self.worker.look_near(self.directories)
+    }
+
+    // Writes a new text.
+    fn write(&mut self, number: usize, _text: &TextFile) -> Result<(), RunFault> {
+        match self.changes.get(number) {
+            Some(change) => self.worker.write_text(change),
+            None => Ok(()),
+        }
     }
 }
 

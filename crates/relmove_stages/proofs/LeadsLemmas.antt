@@ -1,5 +1,5 @@
 -- What a run requires makes each of its stages one that tells how far it is.
-use Rattle.std.proofs.Common.{◌≡◌, ◌⊎◌, inl, inr, ◌<◌, ℕ, List, map, Some, None, sym, ◌∙◌, ap, subst, arith}
+use Rattle.std.proofs.Common.{◌≡◌, ◌⊎◌, inl, inr, ◌<◌, ℕ, List, map, Some, None, refl, sym, subst, arith}
 use Rattle.std.specs.List.{slice_get}
 use Rattle.std.proofs.Common.{String, length}
 use Rattle.std.proofs.lemmas.List.{take_all}
@@ -11,12 +11,13 @@ use Rattle.relmove_journal.specs.declared.work.Stage.{Stage}
 use Rattle.relmove_journal.specs.declared.work.Stage.TheVariants.{Writing, Staging, Making, Placing, Cleaning, Unplacing, Unmaking, Unstaging, Erasing}
 use Rattle.relmove_journal.specs.declared.work.TextFile.{TextFile}
 use Rattle.relmove_journal.specs.declared.work.Work.{Work}
-use Rattle.relmove_stages.specs.Runs.{AreAllApart, CanBegin, CanEnd, DeepestFirst, EndsFrom, HasOldTexts, IsAllDone, IsAtStage, Leads, Trees, left_place, tree_at}
+use Rattle.relmove_stages.specs.Runs.{AreAllApart, BeginsAt, CanBegin, CanEnd, DeepestFirst, EndsFrom, HasOldTexts, IsAllDone, IsAtStage, IsOnStage, IsStageDone, Leads, Trees, left_place}
 use Rattle.relmove_stages.specs.StageActions.{IsAfter, IsDone, IsReady, LeadsTo, StageAction, Clears, place_of, tree_action}
 use Rattle.relmove_stages.specs.Stages.{back, cleans, makes, next_stage, removes, removes_part, stage_actions, stage_back, takes, undone}
 use Rattle.relmove_stages.proofs.ActionLemmas.{Clears-stays, IsBackable, IsUndone, Loses, Makes-stays, Takes-stays, done-becomes, none-stays}
 use Rattle.relmove_stages.proofs.BackLemmas.{AreBackable, IsAfter-there, back-end, on_stage-back, stage-back, whole-after}
 use Rattle.relmove_stages.proofs.ChainLemmas.{IsStage, LeadsTo-end, LeadsTo-ready, holds_on, map_at}
+use Rattle.relmove_stages.proofs.PartsLemmas.{parts-lead}
 use Rattle.relmove_trees.specs.FileTrees.{IsUnder, IsWholeTree, Tree}
 use Rattle.relmove_trees.specs.TreeActions.{Acts}
 
@@ -211,78 +212,129 @@ module _ (work : Work) (trees : Trees) (leads : Leads work trees) where
       whole-end (map makes work.made.items) trees.staged trees.made (makes-backable work.made.items) staged-whole leads.makes
 
   -- each stage tells how far it is
-  pub stage-leads : (stage : Stage) → IsStage (stage_actions work stage) (tree_at trees stage)
-  stage-leads Writing = parts-stage work.texts.items (λ tree. tree ≡ trees.before) trees.torn leads.parts
-  stage-leads Staging = renames-stage work.staged.items (λ tree. tree ≡ trees.staged) trees.written leads.staged_apart leads.stages
-  stage-leads Making = makes-stage work.made.items (λ tree. tree ≡ trees.made) trees.staged leads.makes
-  stage-leads Placing = renames-stage work.placed.items (λ tree. tree ≡ trees.placed) trees.made leads.placed_apart leads.places
-  stage-leads Cleaning = cleaning-stage work.cleaned.items (λ tree. Unit {0}) trees.placed leads.deepest leads.cleans
-  stage-leads Unplacing = renames-back work.placed.items trees.made trees.placed leads.placed_apart made-whole leads.places
-  stage-leads Unmaking = makes-back work.made.items trees.staged trees.made staged-whole leads.makes
-  stage-leads Unstaging = renames-back work.staged.items trees.written trees.staged leads.staged_apart leads.whole leads.stages
-  stage-leads Erasing = removes-stage work.texts.items (λ tree. tree ≡ trees.before) trees.written leads.texts
+  pub stage-leads : (stage : Stage) (start : Tree) → BeginsAt work trees stage start → IsStage (stage_actions work stage) start
+  stage-leads Writing start begins =
+      parts-stage work.texts.items (λ tree. tree ≡ trees.before) start
+      (parts-lead work.texts.items trees.before trees.written start leads.texts begins)
+  stage-leads Staging start begins =
+      subst (IsStage (map takes work.staged.items)) (sym begins)
+      (renames-stage work.staged.items (λ tree. tree ≡ trees.staged) trees.written leads.staged_apart leads.stages)
+  stage-leads Making start begins =
+      subst (IsStage (map makes work.made.items)) (sym begins)
+      (makes-stage work.made.items (λ tree. tree ≡ trees.made) trees.staged leads.makes)
+  stage-leads Placing start begins =
+      subst (IsStage (map takes work.placed.items)) (sym begins)
+      (renames-stage work.placed.items (λ tree. tree ≡ trees.placed) trees.made leads.placed_apart leads.places)
+  stage-leads Cleaning start begins =
+      subst (IsStage (map cleans work.cleaned.items)) (sym begins)
+      (cleaning-stage work.cleaned.items (λ tree. Unit {0}) trees.placed leads.deepest leads.cleans)
+  stage-leads Unplacing start begins =
+      subst (IsStage (undone (map takes work.placed.items))) (sym begins)
+      (renames-back work.placed.items trees.made trees.placed leads.placed_apart made-whole leads.places)
+  stage-leads Unmaking start begins =
+      subst (IsStage (undone (map makes work.made.items))) (sym begins)
+      (makes-back work.made.items trees.staged trees.made staged-whole leads.makes)
+  stage-leads Unstaging start begins =
+      subst (IsStage (undone (map takes work.staged.items))) (sym begins)
+      (renames-back work.staged.items trees.written trees.staged leads.staged_apart leads.whole leads.stages)
+  stage-leads Erasing start begins =
+      subst (IsStage (map removes work.texts.items)) (sym begins)
+      (removes-stage work.texts.items (λ tree. tree ≡ trees.before) trees.written leads.texts)
+
+  -- the same actions from the same tree
+  after_start : (actions : List StageAction) (one other tree : Tree) → one ≡ other → IsAfter actions one tree
+      → IsAfter actions other tree
+  after_start actions one other tree same is = subst (λ (t : Tree). IsAfter actions t tree) same is
+
+  on_start : (actions : List StageAction) (one other tree : Tree) → one ≡ other → IsOnStage actions one tree
+      → IsOnStage actions other tree
+  on_start actions one other tree same on = subst (λ (t : Tree). IsOnStage actions t tree) same on
+
+  next_begins : (one next : Stage) (tree : Tree) → Some one ≡ Some next → BeginsAt work trees one tree → BeginsAt work trees next tree
+  next_begins one next tree some begins = subst (λ (s : Stage). BeginsAt work trees s tree) (next_is one next some) begins
 
   -- a stage leads to where the next one begins
-  pub next-leads : (stage next : Stage) (tree : Tree) → next_stage stage ≡ Some next
-      → IsAfter (stage_actions work stage) (tree_at trees stage) tree → tree ≡ tree_at trees next
-  next-leads Writing next tree some is = absurd (cc some)
-  next-leads Staging next tree some is =
-      LeadsTo-end (map takes work.staged.items) (λ tree. tree ≡ trees.staged) trees.written leads.stages tree is
-      ∙ ap (tree_at trees) (next_is Making next some)
-  next-leads Making next tree some is =
-      LeadsTo-end (map makes work.made.items) (λ tree. tree ≡ trees.made) trees.staged leads.makes tree is
-      ∙ ap (tree_at trees) (next_is Placing next some)
-  next-leads Placing next tree some is =
-      LeadsTo-end (map takes work.placed.items) (λ tree. tree ≡ trees.placed) trees.made leads.places tree is
-      ∙ ap (tree_at trees) (next_is Cleaning next some)
-  next-leads Cleaning next tree some is = absurd (cc some)
-  next-leads Unplacing next tree some is =
-      back-end (map takes work.placed.items) trees.made trees.placed (renames-backable work.placed.items) made-whole leads.places tree is
-      ∙ ap (tree_at trees) (next_is Unmaking next some)
-  next-leads Unmaking next tree some is =
-      back-end (map makes work.made.items) trees.staged trees.made (makes-backable work.made.items) staged-whole leads.makes tree is
-      ∙ ap (tree_at trees) (next_is Unstaging next some)
-  next-leads Unstaging next tree some is =
-      back-end (map takes work.staged.items) trees.written trees.staged (renames-backable work.staged.items) leads.whole
-      leads.stages tree is
-      ∙ ap (tree_at trees) (next_is Erasing next some)
-  next-leads Erasing next tree some is = absurd (cc some)
+  pub next-leads : (stage next : Stage) (tree : Tree) → next_stage stage ≡ Some next → IsStageDone work trees stage tree
+      → BeginsAt work trees next tree
+  next-leads Writing next tree some done = absurd (cc some)
+  next-leads Staging next tree some (start, begins, is) =
+      next_begins Making next tree some
+      (LeadsTo-end (map takes work.staged.items) (λ tree. tree ≡ trees.staged) trees.written leads.stages tree
+      (after_start (map takes work.staged.items) start trees.written tree begins is))
+  next-leads Making next tree some (start, begins, is) =
+      next_begins Placing next tree some
+      (LeadsTo-end (map makes work.made.items) (λ tree. tree ≡ trees.made) trees.staged leads.makes tree
+      (after_start (map makes work.made.items) start trees.staged tree begins is))
+  next-leads Placing next tree some (start, begins, is) =
+      next_begins Cleaning next tree some
+      (LeadsTo-end (map takes work.placed.items) (λ tree. tree ≡ trees.placed) trees.made leads.places tree
+      (after_start (map takes work.placed.items) start trees.made tree begins is))
+  next-leads Cleaning next tree some done = absurd (cc some)
+  next-leads Unplacing next tree some (start, begins, is) =
+      next_begins Unmaking next tree some
+      (back-end (map takes work.placed.items) trees.made trees.placed (renames-backable work.placed.items) made-whole leads.places tree
+      (after_start (undone (map takes work.placed.items)) start trees.placed tree begins is))
+  next-leads Unmaking next tree some (start, begins, is) =
+      next_begins Unstaging next tree some
+      (back-end (map makes work.made.items) trees.staged trees.made (makes-backable work.made.items) staged-whole leads.makes tree
+      (after_start (undone (map makes work.made.items)) start trees.made tree begins is))
+  next-leads Unstaging next tree some (start, begins, is) =
+      next_begins Erasing next tree some
+      (back-end (map takes work.staged.items) trees.written trees.staged (renames-backable work.staged.items) leads.whole leads.stages
+      tree (after_start (undone (map takes work.staged.items)) start trees.staged tree begins is))
+  next-leads Erasing next tree some done = absurd (cc some)
 
   -- the last stage on each way ends the run
-  pub end-leads : (stage : Stage) (tree : Tree) → next_stage stage ≡ None
-      → IsAfter (stage_actions work stage) (tree_at trees stage) tree → EndsFrom work trees stage tree
-  end-leads Writing tree none is =
-      LeadsTo-end (map removes_part work.texts.items) (λ tree. tree ≡ trees.before) trees.torn leads.parts tree is
-  end-leads Staging tree none is = absurd (cc none)
-  end-leads Making tree none is = absurd (cc none)
-  end-leads Placing tree none is = absurd (cc none)
-  end-leads Cleaning tree none is = is
-  end-leads Unplacing tree none is = absurd (cc none)
-  end-leads Unmaking tree none is = absurd (cc none)
-  end-leads Unstaging tree none is = absurd (cc none)
-  end-leads Erasing tree none is =
-      LeadsTo-end (map removes work.texts.items) (λ tree. tree ≡ trees.before) trees.written leads.texts tree is
+  pub end-leads : (stage : Stage) (tree : Tree) → next_stage stage ≡ None → IsStageDone work trees stage tree
+      → EndsFrom work trees stage tree
+  end-leads Writing tree none (start, begins, is) =
+      LeadsTo-end (map removes_part work.texts.items) (λ tree. tree ≡ trees.before) start
+      (parts-lead work.texts.items trees.before trees.written start leads.texts begins) tree is
+  end-leads Staging tree none done = absurd (cc none)
+  end-leads Making tree none done = absurd (cc none)
+  end-leads Placing tree none done = absurd (cc none)
+  end-leads Cleaning tree none (start, begins, is) =
+      after_start (map cleans work.cleaned.items) start trees.placed tree begins is
+  end-leads Unplacing tree none done = absurd (cc none)
+  end-leads Unmaking tree none done = absurd (cc none)
+  end-leads Unstaging tree none done = absurd (cc none)
+  end-leads Erasing tree none (start, begins, is) =
+      LeadsTo-end (map removes work.texts.items) (λ tree. tree ≡ trees.before) trees.written leads.texts tree
+      (after_start (map removes work.texts.items) start trees.written tree begins is)
+
+  back_is : (one next : Stage) (tree : Tree) → Some one ≡ Some next → IsAtStage work trees one tree → IsAtStage work trees next tree
+  back_is one next tree some at = subst (λ (s : Stage). IsAtStage work trees s tree) (next_is one next some) at
 
   -- a run may turn back in the middle of a stage
   pub back-leads : (stage next : Stage) (tree : Tree) → stage_back stage ≡ Some next → IsAtStage work trees stage tree
       → IsAtStage work trees next tree
-  back-leads Writing next tree some on = subst (λ (s : Stage). IsAtStage work trees s tree) (next_is Writing next some) on
-  back-leads Staging next tree some on =
-      subst (λ (s : Stage). IsAtStage work trees s tree) (next_is Unstaging next some)
-      (on_stage-back (map takes work.staged.items) trees.written trees.staged (renames-backable work.staged.items)
-      leads.whole leads.stages tree on)
-  back-leads Making next tree some on =
-      subst (λ (s : Stage). IsAtStage work trees s tree) (next_is Unmaking next some)
-      (on_stage-back (map makes work.made.items) trees.staged trees.made (makes-backable work.made.items) staged-whole leads.makes tree on)
-  back-leads Placing next tree some on =
-      subst (λ (s : Stage). IsAtStage work trees s tree) (next_is Unplacing next some)
-      (on_stage-back (map takes work.placed.items) trees.made trees.placed (renames-backable work.placed.items)
-      made-whole leads.places tree on)
-  back-leads Cleaning next tree some on = absurd (cc some)
-  back-leads Unplacing next tree some on = subst (λ (s : Stage). IsAtStage work trees s tree) (next_is Unplacing next some) on
-  back-leads Unmaking next tree some on = subst (λ (s : Stage). IsAtStage work trees s tree) (next_is Unmaking next some) on
-  back-leads Unstaging next tree some on = subst (λ (s : Stage). IsAtStage work trees s tree) (next_is Unstaging next some) on
-  back-leads Erasing next tree some on = subst (λ (s : Stage). IsAtStage work trees s tree) (next_is Erasing next some) on
+  back-leads Writing next tree some at = back_is Writing next tree some at
+  back-leads Staging next tree some (start, begins, on) =
+      back_is Unstaging next tree some (
+        trees.staged,
+        refl,
+        on_stage-back (map takes work.staged.items) trees.written trees.staged (renames-backable work.staged.items) leads.whole
+            leads.stages tree (on_start (map takes work.staged.items) start trees.written tree begins on),
+      )
+  back-leads Making next tree some (start, begins, on) =
+      back_is Unmaking next tree some (
+        trees.made,
+        refl,
+        on_stage-back (map makes work.made.items) trees.staged trees.made (makes-backable work.made.items) staged-whole
+            leads.makes tree (on_start (map makes work.made.items) start trees.staged tree begins on),
+      )
+  back-leads Placing next tree some (start, begins, on) =
+      back_is Unplacing next tree some (
+        trees.placed,
+        refl,
+        on_stage-back (map takes work.placed.items) trees.made trees.placed (renames-backable work.placed.items) made-whole
+            leads.places tree (on_start (map takes work.placed.items) start trees.made tree begins on),
+      )
+  back-leads Cleaning next tree some at = absurd (cc some)
+  back-leads Unplacing next tree some at = back_is Unplacing next tree some at
+  back-leads Unmaking next tree some at = back_is Unmaking next tree some at
+  back-leads Unstaging next tree some at = back_is Unstaging next tree some at
+  back-leads Erasing next tree some at = back_is Erasing next tree some at
 
   -- what is compared is as it was read and written
   pub begin-leads : (stage : Stage) (tree : Tree) → IsAtStage work trees stage tree → CanBegin work stage tree
@@ -296,17 +348,17 @@ module _ (work : Work) (trees : Trees) (leads : Leads work trees) where
   begin-leads Unstaging tree on = tt
   begin-leads Erasing tree on = tt
 
-  pub complete-leads : (stage : Stage) (tree : Tree) → IsAfter (stage_actions work stage) (tree_at trees stage) tree
-      → CanEnd work stage tree
-  complete-leads Writing tree is = tt
-  complete-leads Staging tree is =
+  pub complete-leads : (stage : Stage) (tree : Tree) → IsStageDone work trees stage tree → CanEnd work stage tree
+  complete-leads Writing tree done = tt
+  complete-leads Staging tree (start, begins, is) =
       subst (HasOldTexts work)
-      (sym (LeadsTo-end (map takes work.staged.items) (λ tree. tree ≡ trees.staged) trees.written leads.stages tree is))
+      (sym (LeadsTo-end (map takes work.staged.items) (λ tree. tree ≡ trees.staged) trees.written leads.stages tree
+      (after_start (map takes work.staged.items) start trees.written tree begins is)))
       leads.old_texts
-  complete-leads Making tree is = tt
-  complete-leads Placing tree is = tt
-  complete-leads Cleaning tree is = tt
-  complete-leads Unplacing tree is = tt
-  complete-leads Unmaking tree is = tt
-  complete-leads Unstaging tree is = tt
-  complete-leads Erasing tree is = tt
+  complete-leads Making tree done = tt
+  complete-leads Placing tree done = tt
+  complete-leads Cleaning tree done = tt
+  complete-leads Unplacing tree done = tt
+  complete-leads Unmaking tree done = tt
+  complete-leads Unstaging tree done = tt
+  complete-leads Erasing tree done = tt

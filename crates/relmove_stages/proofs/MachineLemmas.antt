@@ -1,15 +1,16 @@
 -- The calls of a run, one after another.
-use Rattle.std.proofs.Common.{◌≡◌, ◌⊎◌, ◌<◌, ℕ, suc, Some, None, arith, sym, ◌∙◌, subst, Result, Ok, Err, OnErr, OnOk}
+use Rattle.std.proofs.Common.{◌≡◌, ◌⊎◌, inl, inr, ◌∙◌, ◌<◌, ◌≤◌, ℕ, Option, suc, Some, None, length, arith, refl, sym, subst, Result, Ok, Err, OnErr, OnOk}
 use Rattle.std.specs.List.{slice_get}
 use Rattle.relmove_journal.specs.declared.work.Stage.{Stage}
 use Rattle.relmove_journal.specs.declared.work.Work.{Work}
-use Rattle.relmove_stages.specs.Runs.{EndsFrom, Guards, IsAtStage, Leads, Trees, tree_at}
-use Rattle.relmove_stages.specs.StageActions.{Does, IsAfter, IsDone, IsReady, MayDo, StageAction}
+use Rattle.relmove_stages.specs.Runs.{BeginsAt, EndsFrom, Guards, IsAtStage, IsStageDone, Leads, Trees}
+use Rattle.relmove_stages.specs.StageActions.{Does, IsDone, IsReady, MayDo, StageAction}
 use Rattle.relmove_stages.specs.Stages.{next_stage, stage_actions, stage_back}
 use Rattle.relmove_stages.specs.States.{IsOneCall, State}
-use Rattle.relmove_stages.proofs.ChainLemmas.{IsReached, on_stage-may, on_stage-none, reached-next, ready_or_done}
+use Rattle.relmove_stages.proofs.ChainLemmas.{IsReached, on_stage-may, on_stage-none, reached-all, reached-next, ready_or_done}
 use Rattle.relmove_stages.proofs.LeadsLemmas.{back-leads, end-leads, ends-one_of, next-leads, stage-leads}
 use Rattle.relmove_stages.proofs.StateLemmas.{guards-act, guards-none, guards-put, way-at}
+use Rattle.relmove_trees.specs.FileTrees.{Tree}
 
 pub on_err : {A E : Type 0} (P : Type 0) (r : Result A E) → P → OnErr r P
 on_err P (Ok x) p = tt
@@ -23,63 +24,88 @@ pub on_err-map : {A E : Type 0} (P Q : Type 0) (r : Result A E) → (P → Q) �
 on_err-map P Q (Ok x) to p = tt
 on_err-map P Q (Err e) to p = to p
 
+-- after a journal was put in the place of another there is one
+pub put-there : (old new : Option Stage) (stage next : Stage) → old ≡ Some stage → (new ≡ old) ⊎ (new ≡ Some next) → new ≡ None → ⊥
+put-there old new stage next at (inl same) none = cc (sym none ∙ same ∙ at)
+put-there old new stage next at (inr put) none = cc (sym none ∙ put)
+
+-- the first i actions of the stage are done, and maybe more
+abbrev pub IsStageReached : Work → Trees → Stage → ℕ → Tree → Type 0
+IsStageReached work trees stage i tree =
+    (start : Tree) × BeginsAt work trees stage start × IsReached (stage_actions work stage) start i tree
+
+module _ (work : Work) (trees : Trees) (stage : Stage) where
+  pub reached-first : (tree : Tree) → IsAtStage work trees stage tree → IsStageReached work trees stage 0 tree
+  reached-first tree (start, begins, on) =
+      (start, begins, record { done = on.done; from = omega arith; within = on.within; is = on.is })
+
+  pub reached-last : (i : ℕ) (tree : Tree) → length (stage_actions work stage) ≤ i → IsStageReached work trees stage i tree
+      → IsStageDone work trees stage tree
+  reached-last i tree all (start, begins, reached) =
+      (start, begins, reached-all (stage_actions work stage) start i tree all reached)
+
+  -- where the stage begins none of its actions is done
+  pub at-begin : (tree : Tree) → BeginsAt work trees stage tree → IsAtStage work trees stage tree
+  at-begin tree begins = (tree, begins, on_stage-none (stage_actions work stage) tree tree refl)
+
 module _ (work : Work) (trees : Trees) (leads : Leads work trees) (stage : Stage) where
   -- an action
   pub act-guards : (i : ℕ) (action : StageAction) (old mid new : State) → slice_get (stage_actions work stage) i ≡ Some action
-      → Guards work trees old mid → mid.disk.journal ≡ Some stage
-      → IsReached (stage_actions work stage) (tree_at trees stage) i mid.disk.tree → IsOneCall mid new
-      → new.disk.journal ≡ mid.disk.journal → MayDo action mid.disk.tree new.disk.tree → Guards work trees old new
-  act-guards i action old mid new at guards journal reached call same may =
-      guards-act work trees stage old mid new guards call journal same
-      (on_stage-may (stage_actions work stage) (tree_at trees stage) (stage-leads work trees leads stage) i action at
-      mid.disk.tree new.disk.tree reached may)
+      → Guards work trees old mid → mid.disk.journal ≡ Some stage → IsStageReached work trees stage i mid.disk.tree
+      → IsOneCall mid new → new.disk.journal ≡ mid.disk.journal → MayDo action mid.disk.tree new.disk.tree
+      → Guards work trees old new
+  act-guards i action old mid new at guards journal (start, begins, reached) call same may =
+      guards-act work trees stage old mid new guards call journal same (
+        start,
+        begins,
+        on_stage-may (stage_actions work stage) start (stage-leads work trees leads stage start begins) i action at
+            mid.disk.tree new.disk.tree reached may,
+      )
 
   pub act-reached : (i : ℕ) (action : StageAction) (mid new : State) → slice_get (stage_actions work stage) i ≡ Some action
-      → IsReached (stage_actions work stage) (tree_at trees stage) i mid.disk.tree → Does action mid.disk.tree new.disk.tree
-      → IsReached (stage_actions work stage) (tree_at trees stage) (suc i) new.disk.tree
-  act-reached i action mid new at reached does =
-      reached-next (stage_actions work stage) (tree_at trees stage) (stage-leads work trees leads stage) i action at
-      mid.disk.tree new.disk.tree reached does
+      → IsStageReached work trees stage i mid.disk.tree → Does action mid.disk.tree new.disk.tree
+      → IsStageReached work trees stage (suc i) new.disk.tree
+  act-reached i action mid new at (start, begins, reached) does = (
+    start,
+    begins,
+    reached-next (stage_actions work stage) start (stage-leads work trees leads stage start begins) i action at
+        mid.disk.tree new.disk.tree reached does,
+  )
 
   pub act-cause : (i : ℕ) (action : StageAction) (old mid new : State) → slice_get (stage_actions work stage) i ≡ Some action
-      → Guards work trees old mid → IsReached (stage_actions work stage) (tree_at trees stage) i mid.disk.tree
+      → Guards work trees old mid → IsStageReached work trees stage i mid.disk.tree
       → (IsReady action mid.disk.tree ⊎ IsDone action mid.disk.tree → mid.faults < new.faults) → old.faults < new.faults
-  act-cause i action old mid new at guards reached cause =
+  act-cause i action old mid new at guards (start, begins, reached) cause =
       let less = guards.leaves.no_less in
       let failed =
-      cause (ready_or_done (stage_actions work stage) (tree_at trees stage) (stage-leads work trees leads stage) i action at
+      cause (ready_or_done (stage_actions work stage) start (stage-leads work trees leads stage start begins) i action at
       mid.disk.tree reached) in
       omega (arith, less, failed)
 
   -- the journal of the next stage
   pub next-guards : (next : Stage) (old mid new : State) → next_stage stage ≡ Some next → Guards work trees old mid
-      → IsAfter (stage_actions work stage) (tree_at trees stage) mid.disk.tree → IsOneCall mid new
-      → new.disk.tree ≡ mid.disk.tree → (new.disk.journal ≡ mid.disk.journal) ⊎ (new.disk.journal ≡ Some next)
-      → Guards work trees old new
+      → IsStageDone work trees stage mid.disk.tree → IsOneCall mid new → new.disk.tree ≡ mid.disk.tree
+      → (new.disk.journal ≡ mid.disk.journal) ⊎ (new.disk.journal ≡ Some next) → Guards work trees old new
   next-guards next old mid new is_next guards done call same outcome =
       guards-put work trees (Some next) old mid new guards call same outcome
-      (on_stage-none (stage_actions work next) (tree_at trees next) mid.disk.tree
-      (next-leads work trees leads stage next mid.disk.tree is_next done))
+      (at-begin work trees next mid.disk.tree (next-leads work trees leads stage next mid.disk.tree is_next done))
 
-  pub next-at : (next : Stage) (mid new : State) → next_stage stage ≡ Some next
-      → IsAfter (stage_actions work stage) (tree_at trees stage) mid.disk.tree → new.disk.tree ≡ mid.disk.tree
-      → IsAtStage work trees next new.disk.tree
+  pub next-at : (next : Stage) (mid new : State) → next_stage stage ≡ Some next → IsStageDone work trees stage mid.disk.tree
+      → new.disk.tree ≡ mid.disk.tree → IsAtStage work trees next new.disk.tree
   next-at next mid new is_next done same =
-      on_stage-none (stage_actions work next) (tree_at trees next) new.disk.tree
-      (same ∙ next-leads work trees leads stage next mid.disk.tree is_next done)
+      subst (IsAtStage work trees next) (sym same)
+      (at-begin work trees next mid.disk.tree (next-leads work trees leads stage next mid.disk.tree is_next done))
 
   -- the end
   pub end-guards : (old mid new : State) → next_stage stage ≡ None → Guards work trees old mid
-      → IsAfter (stage_actions work stage) (tree_at trees stage) mid.disk.tree → IsOneCall mid new
-      → new.disk.tree ≡ mid.disk.tree → (new.disk.journal ≡ mid.disk.journal) ⊎ (new.disk.journal ≡ None)
-      → Guards work trees old new
+      → IsStageDone work trees stage mid.disk.tree → IsOneCall mid new → new.disk.tree ≡ mid.disk.tree
+      → (new.disk.journal ≡ mid.disk.journal) ⊎ (new.disk.journal ≡ None) → Guards work trees old new
   end-guards old mid new last guards done call same outcome =
       guards-put work trees None old mid new guards call same outcome
       (ends-one_of work trees stage mid.disk.tree (end-leads work trees leads stage mid.disk.tree last done))
 
-  pub end-ends : (mid new : State) → next_stage stage ≡ None
-      → IsAfter (stage_actions work stage) (tree_at trees stage) mid.disk.tree → new.disk.tree ≡ mid.disk.tree
-      → EndsFrom work trees stage new.disk.tree
+  pub end-ends : (mid new : State) → next_stage stage ≡ None → IsStageDone work trees stage mid.disk.tree
+      → new.disk.tree ≡ mid.disk.tree → EndsFrom work trees stage new.disk.tree
   end-ends mid new last done same =
       subst (EndsFrom work trees stage) (sym same) (end-leads work trees leads stage mid.disk.tree last done)
 

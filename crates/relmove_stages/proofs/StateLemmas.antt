@@ -10,6 +10,7 @@ Leaves-none P state = record {
   later = omega arith;
   crash = λ c left. inl left;
   any_moment = λ t c le left. inl left;
+  keeps = λ t c le left. left;
   no_less = omega arith;
   clean = λ clean. clean;
 }
@@ -24,6 +25,7 @@ Leaves-then P Q old mid new one two to = record {
     | inr (inl may) ↦ inr (one.crash c may)
     | inr (inr now) ↦ inr (inr (to c now))
   ];
+  keeps = λ t c le left. two.keeps t c (let l = one.later in omega (arith, le, l)) (one.keeps t c le left);
   no_less = let l = one.no_less in let m = two.no_less in omega (arith, l, m);
   clean = λ clean. one.clean (two.clean clean);
 }

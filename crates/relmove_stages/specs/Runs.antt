@@ -1,5 +1,5 @@
 -- The trees of a run, what a run requires of its actions, and what a crash leaves of it.
-use Rattle.std.specs.Prelude.{◌≡◌, ◌⊎◌, ◌<◌, ◌≤◌, ℕ, List, Option, Some, None, length, slice_get, take}
+use Rattle.std.specs.Prelude.{◌≡◌, ◌⊎◌, ◌<◌, ◌≤◌, ℕ, List, [], ◌∷◌, Option, Some, None, length, slice_get, take}
 use Rattle.relmove_actions.specs.declared.actions.Rename.{Rename}
 use Rattle.relmove_journal.specs.declared.work.Leftover.{Leftover}
 use Rattle.relmove_journal.specs.declared.work.Leftover.TheVariants.{Text, Directory}
@@ -7,16 +7,17 @@ use Rattle.relmove_journal.specs.declared.work.Stage.{Stage}
 use Rattle.relmove_journal.specs.declared.work.Stage.TheVariants.{Writing, Staging, Making, Placing, Cleaning, Unplacing, Unmaking, Unstaging, Erasing}
 use Rattle.relmove_journal.specs.declared.work.TextFile.{TextFile}
 use Rattle.relmove_journal.specs.declared.work.Work.{Work}
-use Rattle.relmove_stages.specs.StageActions.{HasText, IsAfter, LeadsTo, StageAction, place_of}
+use Rattle.relmove_stages.specs.StageActions.{HasPart, HasText, IsAfter, IsText, LeadsTo, StageAction, place_of}
 use Rattle.relmove_stages.specs.Stages.{stage_actions}
 use Rattle.relmove_stages.specs.States.{Disk, Leaves, State}
-use Rattle.relmove_trees.specs.FileTrees.{IsUnder, IsWholeTree, Place, Tree}
+use Rattle.relmove_trees.specs.FileTrees.{CanTake, IsUnder, IsWholeTree, Place, Tree}
+use Rattle.relmove_trees.specs.TreeActions as tree_actions
+use Rattle.relmove_trees.specs.TreeActions.{LeadTo}
 
--- The trees between the stages: before the run, with new texts that may be parts, with whole new texts, when everything has
--- its staging name, when the directories are made, and when everything is at its new path.
+-- The trees between the stages: before the run, with the new texts, when everything has its staging name, when the directories
+-- are made, and when everything is at its new path.
 pub record Trees : Type 0 where
   pub before : Tree
-  pub torn : Tree
   pub written : Tree
   pub staged : Tree
   pub made : Tree
@@ -26,24 +27,32 @@ pub record Trees : Type 0 where
 abbrev pub unknown_trees : Trees
 unknown_trees = record {
   before = λ _. None;
-  torn = λ _. None;
   written = λ _. None;
   staged = λ _. None;
   made = λ _. None;
   placed = λ _. None;
 }
 
--- the tree at which a stage begins
-abbrev pub tree_at : Trees → Stage → Tree
-tree_at trees Writing = trees.torn
-tree_at trees Staging = trees.written
-tree_at trees Making = trees.staged
-tree_at trees Placing = trees.made
-tree_at trees Cleaning = trees.placed
-tree_at trees Unplacing = trees.placed
-tree_at trees Unmaking = trees.made
-tree_at trees Unstaging = trees.staged
-tree_at trees Erasing = trees.written
+-- a new text that has this place is there, or a part of it
+abbrev pub HasNewPart : List TextFile → Place → Tree → Type 0
+HasNewPart texts place tree = (i : ℕ) × (text : TextFile) × (slice_get texts i ≡ Some text) × (place ≡ place_of text.path)
+    × HasPart place text.digest tree
+
+-- but for new texts, and parts of them, the tree is the one before
+abbrev pub HasParts : List TextFile → Tree → Tree → Type 0
+HasParts texts before tree = (place : Place) → (tree place ≡ before place) ⊎ HasNewPart texts place tree
+
+-- a stage begins at the tree
+abbrev pub BeginsAt : Work → Trees → Stage → Tree → Type 0
+BeginsAt work trees Writing tree = HasParts work.texts.items trees.before tree
+BeginsAt work trees Staging tree = tree ≡ trees.written
+BeginsAt work trees Making tree = tree ≡ trees.staged
+BeginsAt work trees Placing tree = tree ≡ trees.made
+BeginsAt work trees Cleaning tree = tree ≡ trees.placed
+BeginsAt work trees Unplacing tree = tree ≡ trees.placed
+BeginsAt work trees Unmaking tree = tree ≡ trees.made
+BeginsAt work trees Unstaging tree = tree ≡ trees.staged
+BeginsAt work trees Erasing tree = tree ≡ trees.written
 
 -- ---- where a run is
 
@@ -55,7 +64,13 @@ pub record IsOnStage (actions : List StageAction) (start tree : Tree) : Type 0 w
 
 -- the first actions of the stage are done, and no other
 abbrev pub IsAtStage : Work → Trees → Stage → Tree → Type 0
-IsAtStage work trees stage tree = IsOnStage (stage_actions work stage) (tree_at trees stage) tree
+IsAtStage work trees stage tree =
+    (start : Tree) × BeginsAt work trees stage start × IsOnStage (stage_actions work stage) start tree
+
+-- all actions of the stage are done
+abbrev pub IsStageDone : Work → Trees → Stage → Tree → Type 0
+IsStageDone work trees stage tree =
+    (start : Tree) × BeginsAt work trees stage start × IsAfter (stage_actions work stage) start tree
 
 -- all actions are done: everything is at its new path, and what is left over is removed
 abbrev pub IsAllDone : Work → Trees → Tree → Type 0
@@ -146,7 +161,6 @@ CanEnd work Erasing tree = Unit {0}
 -- leads to where one leaves from, or above or below it; and the texts have the digests that the journal says.
 pub record Leads (work : Work) (trees : Trees) : Type 0 where
   pub whole : IsWholeTree trees.written
-  pub parts : LeadsTo (stage_actions work Writing) (λ tree. tree ≡ trees.before) trees.torn
   pub texts : LeadsTo (stage_actions work Erasing) (λ tree. tree ≡ trees.before) trees.written
   pub stages : LeadsTo (stage_actions work Staging) (λ tree. tree ≡ trees.staged) trees.written
   pub makes : LeadsTo (stage_actions work Making) (λ tree. tree ≡ trees.made) trees.staged
@@ -157,3 +171,23 @@ pub record Leads (work : Work) (trees : Trees) : Type 0 where
   pub deepest : DeepestFirst work.cleaned.items
   pub old_texts : HasOldTexts work trees.staged
   pub new_texts : (tree : Tree) → IsAtStage work trees Placing tree → HasNewTexts work tree
+
+-- ---- how a run begins
+
+-- the new texts are written to their places, one after another
+abbrev pub writes_of : List TextFile → List (List ℕ) → List tree_actions.Action
+writes_of [] bytes = []
+writes_of (text ∷ texts) [] = []
+writes_of (text ∷ texts) (bytes ∷ rest) = tree_actions.Write (place_of text.path) bytes ∷ writes_of texts rest
+
+-- the new text of this number can be written: it has the digest, nothing is at its place, and a directory is above it
+abbrev pub CanWrite : List (List ℕ) → ℕ → TextFile → Tree → Type 0
+CanWrite texts number text tree =
+    CanTake tree (place_of text.path) × (bytes : List ℕ) × (slice_get texts number ≡ Some bytes) × IsText text.digest bytes
+
+-- What a run requires of its new texts to begin: each has the digest that the journal says, and can be written when it comes;
+-- and they lead from the tree before the run to the one with the new texts.
+pub record CanInitiate (work : Work) (texts : List (List ℕ)) (trees : Trees) : Type 0 where
+  pub digests : (i : ℕ) (text : TextFile) → slice_get work.texts.items i ≡ Some text
+      → (bytes : List ℕ) × (slice_get texts i ≡ Some bytes) × IsText text.digest bytes
+  pub writes : LeadTo (writes_of work.texts.items texts) (λ tree. tree ≡ trees.written) trees.before

@@ -48,10 +48,13 @@ IsText digest bytes = (length bytes ≡ digest.length) × (sha256 bytes ≡ dige
 abbrev pub HasText : Place → TextDigest → Tree → Type 0
 HasText place digest tree = (bytes : List ℕ) × (tree place ≡ Some (File bytes)) × IsText digest bytes
 
+-- the bytes are fewer than the text has, or they are the text
+abbrev pub IsPart : TextDigest → List ℕ → Type 0
+IsPart digest bytes = (length bytes < digest.length) ⊎ IsText digest bytes
+
 -- a file is at the place that is shorter than the text, or that is the text
 abbrev pub HasPart : Place → TextDigest → Tree → Type 0
-HasPart place digest tree =
-    (bytes : List ℕ) × (tree place ≡ Some (File bytes)) × ((length bytes < digest.length) ⊎ IsText digest bytes)
+HasPart place digest tree = (bytes : List ℕ) × (tree place ≡ Some (File bytes)) × IsPart digest bytes
 
 -- the action can be done
 abbrev pub IsReady : StageAction → Tree → Type 0
@@ -78,6 +81,11 @@ pub record Does (action : StageAction) (old new : Tree) : Type 0 where
 pub record MayDo (action : StageAction) (old new : Tree) : Type 0 where
   pub acts : IsReady action old → (new ≡ old) ⊎ Acts (tree_action action) old new
   pub stays : IsDone action old → new ≡ old
+
+-- of a new text nothing is written, or a part, or all of it, and nothing else changes
+abbrev pub MayWrite : Place → TextDigest → Tree → Tree → Type 0
+MayWrite place digest old new =
+    (new ≡ old) ⊎ ((bytes : List ℕ) × IsPart digest bytes × Acts (tree_actions.Write place bytes) old new)
 
 -- the tree is one after the actions
 abbrev pub IsAfter : List StageAction → Tree → Tree → Type 0

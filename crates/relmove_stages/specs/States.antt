@@ -35,11 +35,17 @@ unknown = record {
   is_clean = false;
 }
 
--- The calls between two states leave only disks that have P, or what might have been left before.
+-- of nothing it isn't known that it is clean
+pub not_clean : {P : Type 0} → IsTrue unknown.is_clean → P
+not_clean clean = absurd (cc clean)
+
+-- The calls between two states leave only disks that have P, or what might have been left before. What might have been left
+-- at an earlier moment stays so.
 pub record Leaves (P : Disk → Type 0) (old new : State) : Type 0 where
   pub later : old.moment ≤ new.moment
   pub crash : (c : Disk) → new.may_leave c → old.may_leave c ⊎ P c
   pub any_moment : (t : ℕ) (c : Disk) → t ≤ old.moment → new.left_since t c → old.left_since t c ⊎ (old.may_leave c ⊎ P c)
+  pub keeps : (t : ℕ) (c : Disk) → t ≤ old.moment → old.left_since t c → new.left_since t c
   pub no_less : old.faults ≤ new.faults
   pub clean : IsTrue new.is_clean → IsTrue old.is_clean
 

@@ -1,5 +1,5 @@
 //! What does the actions of a run.
-ghost use Rattle.std.specs.Prelude.{◌≡◌, ◌⊎◌, ◌<◌, ℕ, Some, None, IsTrue, OnOk, OnErr};
+ghost use Rattle.std.specs.Prelude.{◌≡◌, ◌⊎◌, ◌<◌, ◌≤◌, ℕ, Some, None, IsTrue, OnOk, OnErr};
 ghost use Rattle.relmove_stages.specs.Runs.{CanBegin, CanEnd};
 ghost use Rattle.relmove_stages.specs.StageActions.{Does, IsDone, IsReady, MayDo, action_of};
 ghost use Rattle.relmove_stages.specs.States.{Disk, IsOneCall, State};
@@ -80,6 +80,14 @@ pub trait Executor {
         ensures crash { IsOneCall (state self.old) (state self.new) }
         // it fails only if a call failed, or if it can't be done
         ensures cause { OnErr result (IsTrue (state self.new).is_clean → (state self.old).faults < (state self.new).faults) };
+
+    /// A crash may leave what is there.
+    ghost leaves_now: { (executor : Self) → IsTrue (state executor).is_clean
+        → (state executor).may_leave (state executor).disk };
+
+    /// What is there might be left since this moment, and since each before.
+    ghost counts_now: { (executor : Self) (t : ℕ) → IsTrue (state executor).is_clean → t ≤ (state executor).moment
+        → (state executor).left_since t (state executor).disk };
 
     /// Since this moment there is no other.
     ghost only_now: { (executor : Self) (c : Disk) → (state executor).left_since (state executor).moment c

@@ -4,7 +4,9 @@
 //! A module uses modules of the layers below.
 //!
 //! ```text
-//! a run          machine
+//! a whole run    beginning
+//! from a stage   machine
+//! what begins    initiator
 //! what does it   executor
 //! its actions    stages
 //! one of them    action
@@ -12,11 +14,15 @@
 #![tactic(auto)]
 
 pub use self::action::Action;
+pub use self::beginning::{Halt, carry_out};
 pub use self::executor::Executor;
+pub use self::initiator::Initiator;
 pub use self::machine::{finish, turn_back};
 pub use self::stages::{action_at, next_stage, stage_back};
 
 mod action;
+mod beginning;
 mod executor;
+mod initiator;
 mod machine;
 mod stages;

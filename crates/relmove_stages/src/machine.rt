@@ -1,8 +1,7 @@
 //! How a run goes on, or back, from any stage.
 ghost use Rattle.std.specs.Prelude.{◌≡◌, ◌<◌, ℕ, Some, None, IsTrue, IfOk, OnOk, OnErr, true, false};
-ghost use Rattle.relmove_stages.specs.Runs.{EndsFrom, Guards, IsAtStage, IsOnTheWay, Leads, Trees, tree_at};
-ghost use Rattle.relmove_stages.specs.StageActions.{IsAfter};
-ghost use Rattle.relmove_stages.specs.Stages.{stage_actions, stage_back};
+ghost use Rattle.relmove_stages.specs.Runs.{EndsFrom, Guards, IsAtStage, IsOnTheWay, IsStageDone, Leads, Trees};
+ghost use Rattle.relmove_stages.specs.Stages.{stage_back};
 ghost use Rattle.relmove_stages.specs.States.{Disk};
 
 use crate::executor::Executor;
@@ -17,7 +16,7 @@ fn do_stage<E: Executor>(executor: &mut E, work: &Work, stage: Stage) -> Result<
     requires tree { IsTrue (E.state executor.old).is_clean → IsAtStage work.now trees stage (E.state executor.old).disk.tree }
     ensures journal { IsTrue (E.state executor.new).is_clean → (E.state executor.new).disk.journal ≡ Some stage }
     ensures done { OnOk result (IsTrue (E.state executor.new).is_clean
-        → IsAfter (stage_actions work.now stage) (tree_at trees stage) (E.state executor.new).disk.tree) }
+        → IsStageDone work.now trees stage (E.state executor.new).disk.tree) }
     ensures guards { IsTrue (E.state executor.new).is_clean
         → Guards work.now trees (E.state executor.old) (E.state executor.new) }
     ensures cause { OnErr result (IsTrue (E.state executor.new).is_clean
@@ -36,7 +35,7 @@ fn do_actions<E: Executor>(executor: &mut E, work: &Work, stage: Stage) -> Resul
     requires tree { IsTrue (E.state executor.old).is_clean → IsAtStage work.now trees stage (E.state executor.old).disk.tree }
     ensures journal { IsTrue (E.state executor.new).is_clean → (E.state executor.new).disk.journal ≡ Some stage }
     ensures done { OnOk result (IsTrue (E.state executor.new).is_clean
-        → IsAfter (stage_actions work.now stage) (tree_at trees stage) (E.state executor.new).disk.tree) }
+        → IsStageDone work.now trees stage (E.state executor.new).disk.tree) }
     ensures guards { IsTrue (E.state executor.new).is_clean
         → Guards work.now trees (E.state executor.old) (E.state executor.new) }
     ensures cause { OnErr result (IsTrue (E.state executor.new).is_clean
@@ -63,6 +62,9 @@ pub fn finish<E: Executor>(executor: &mut E, work: &Work, stage: Stage) -> Resul
     // all actions are done, or, on the way back, the tree is the one before
     ensures ends { OnOk result (IsTrue (E.state executor.new).is_clean → ((E.state executor.new).disk.journal ≡ None)
         × EndsFrom work.now trees stage (E.state executor.new).disk.tree) }
+    // without a journal all actions are done, or, on the way back, the tree is the one before
+    ensures whole { IsTrue (E.state executor.new).is_clean → (E.state executor.new).disk.journal ≡ None
+        → EndsFrom work.now trees stage (E.state executor.new).disk.tree }
     // after a failure too the first actions of the journal's stage are done, and no other
     ensures guards { IsTrue (E.state executor.new).is_clean
         → Guards work.now trees (E.state executor.old) (E.state executor.new) }

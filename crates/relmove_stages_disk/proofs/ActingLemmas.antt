@@ -1,16 +1,16 @@
 -- What an action may return.
-use Rattle.std.proofs.Common.{◌≡◌, inl, inr, ℕ, List, Some, None, IsSome, IfOk, Result, Ok, Err, Vec, refl, sym, ap, subst, ◌∙◌}
+use Rattle.std.proofs.Common.{◌≡◌, inl, inr, ℕ, List, Some, None, IsSome, IfOk, Result, Ok, Err, Vec, refl, sym, subst}
 use Rattle.std.specs.declared.alloc.AllocError.{AllocError}
 use Rattle.std.specs.declared.alloc.Global.{Global}
 use Rattle.relmove_journal.specs.declared.text_digest.TextDigest.{TextDigest}
-use Rattle.relmove_stages.specs.StageActions.{Clears, Does, IsText, Makes, Removes, RemovesPart, StageAction, Takes}
+use Rattle.relmove_stages.specs.StageActions.{Clears, Does, IsPart, IsText, Makes, Removes, RemovesPart, StageAction, Takes}
 use Rattle.relmove_stages_disk.proofs.LookingLemmas.{takes-none}
 use Rattle.relmove_stages_disk.proofs.NodesLemmas.{with_node-none}
 use Rattle.relmove_stages_disk.specs.Acting.{Answers, IsGivenMemory}
-use Rattle.relmove_stages_disk.specs.Entries.{IsPart, entries_tree}
+use Rattle.relmove_stages_disk.specs.Entries.{entries_tree}
 use Rattle.relmove_stages_disk.specs.declared.entry.Entry.{Entry}
 use Rattle.relmove_stages_disk.specs.declared.fault.Fault.{Fault}
-use Rattle.relmove_stages_disk.specs.declared.fault.Fault.TheVariants.{OutOfMemory, Refused}
+use Rattle.relmove_stages_disk.specs.declared.fault.Fault.TheVariants.{Refused}
 use Rattle.relmove_trees.proofs.FileTreesLemmas.{some_is, some_none}
 use Rattle.relmove_trees.specs.FileTrees.{CanTake, Directory, File, HasBelow, IsUnder, Place, Tree, after_rename, names_of, with_node}
 

@@ -1,5 +1,5 @@
 -- The tree of a list of items.
-use Rattle.std.proofs.Common.{Bool, false, ◌≡◌, ◌≢◌, ◌⊎◌, inl, inr, ℕ, ◌+◌, ◌<◌, ◌≤◌, List, [], ◌∷◌, ◌++◌, Option, Some, None, IsSome, drop, get_or, length, map, refl, sym, ap, ◌∙◌, subst, true}
+use Rattle.std.proofs.Common.{Bool, false, ◌≡◌, ◌≢◌, ◌⊎◌, inl, inr, ℕ, ◌+◌, ◌<◌, ◌≤◌, List, [], ◌∷◌, ◌++◌, Some, None, IsSome, drop, get_or, length, map, refl, sym, ap, ◌∙◌, true}
 use Rattle.std.proofs.Math.Seq.{drop-append_seam}
 use Rattle.std.proofs.lemmas.List.{append-nil, append_assoc, drop_all, drop_more, map-append}
 use Rattle.std.specs.List.{starts_with}
@@ -8,7 +8,7 @@ use Rattle.relmove_stages_disk.proofs.NodesLemmas.{after_rename-nothing, after_r
 use Rattle.relmove_stages_disk.specs.Entries.{Item, entries_tree, item_of, moved, tree_of}
 use Rattle.relmove_stages_disk.specs.declared.entry.Entry.{Entry}
 use Rattle.relmove_trees.proofs.FileTreesLemmas.{not_starts, some_is, some_none, starts, under_or, with_node-at, with_node-elsewhere}
-use Rattle.relmove_trees.specs.FileTrees.{HasNothing, IsUnder, Node, Place, Tree, after_rename, with_node}
+use Rattle.relmove_trees.specs.FileTrees.{HasNothing, IsUnder, Place, after_rename, with_node}
 
 -- ---- the rest of a list of entries
 

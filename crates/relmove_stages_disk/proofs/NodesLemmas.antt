@@ -1,5 +1,5 @@
 -- Nodes that come to places, one after another, and a rename of them.
-use Rattle.std.proofs.Common.{◌≡◌, ◌≢◌, ◌⊎◌, inl, inr, ℕ, List, ◌∷◌, ◌++◌, Option, Some, None, refl, sym, ap, ◌∙◌, append-nil}
+use Rattle.std.proofs.Common.{◌≡◌, ◌≢◌, ◌⊎◌, inl, inr, ◌++◌, Option, None, sym, ap, ◌∙◌}
 use Rattle.std.proofs.lemmas.List.{append_cancel_left}
 use Rattle.relmove_trees.proofs.FileTreesLemmas.{after_rename-elsewhere, after_rename-from, after_rename-to, place_or, under_or, with_node-at, with_node-elsewhere}
 use Rattle.relmove_trees.specs.FileTrees.{IsUnder, Node, Place, Tree, after_rename, with_node}

@@ -1,6 +1,9 @@
 -- What a disk in memory has, and what a crash may leave of it.
-use Rattle.std.specs.Prelude.{◌≡◌, ◌⊎◌, ◌+◌, ◌-◌, ◌^◌, ℕ, List, [], ◌∷◌, ◌++◌, drop, if◌then◌else◌, length, nat_lt}
+use Rattle.std.specs.Prelude.{◌≡◌, ◌⊎◌, ◌+◌, ◌-◌, ◌^◌, ◌≤◌, IsTrue, refl, ℕ, List, [], ◌∷◌, ◌++◌, Vec, drop, if◌then◌else◌, length, map, nat_lt}
+use Rattle.std.specs.declared.alloc.Global.{Global}
 use mathlib.Core.Logic.{inl, inr}
+use Rattle.relmove_journal.specs.declared.work.TextFile.{TextFile}
+use Rattle.relmove_stages.specs.StageActions.{MayWrite, place_of}
 use Rattle.relmove_stages.specs.States.{Disk, State}
 use Rattle.relmove_stages_disk.specs.Entries.{entries_tree}
 use Rattle.relmove_stages_disk.specs.declared.disk.MemoryDisk.{MemoryDisk}
@@ -47,6 +50,20 @@ faults_after Refused faults = faults
 abbrev pub GoesOn : Moment → List Moment → Moment → List Moment → Type 0
 GoesOn now past next past_next = ((next ≡ now) × (past_next ≡ past)) ⊎ (past_next ≡ past ++ now ∷ [])
 
+-- nothing changed, or a part of the text came first, or the whole of it came after the part
+abbrev pub WritesOn : TextFile → Moment → List Moment → Moment → List Moment → Type 0
+WritesOn text now past next past_next = (mid : Moment) × (between : List Moment) × GoesOn now past mid between
+    × GoesOn mid between next past_next × (mid.journal ≡ now.journal)
+    × MayWrite (place_of text.path) text.digest (disk_of now).tree (disk_of mid).tree
+
+-- the bytes of texts
+abbrev pub bytes_of : List (Vec ℕ Global) → List (List ℕ)
+bytes_of texts = map (λ text. text.items) texts
+
+-- the new texts that the disk writes
+abbrev pub texts_of : MemoryDisk → List (List ℕ)
+texts_of memory = bytes_of memory.texts.items
+
 none_after : (moments : List Moment) (disk : Disk) → Had (drop (length moments) moments) disk → ⊥
 none_after [] disk had = had
 none_after (moment ∷ moments) disk had = none_after moments disk had
@@ -56,3 +73,12 @@ pub only_now : (memory : MemoryDisk) (disk : Disk) → HadSince memory (length m
     → HadSince memory memory.durable disk
 only_now memory disk (inl now) = inl now
 only_now memory disk (inr had) = absurd (none_after memory.past.items disk had)
+
+-- a crash may leave what is there now
+pub leaves_now : (memory : MemoryDisk) → IsTrue (state_of memory).is_clean → HadSince memory memory.durable (disk_of memory.now)
+leaves_now memory clean = inl refl
+
+-- and so it may since any moment
+pub counts_now : (memory : MemoryDisk) (t : ℕ) → IsTrue (state_of memory).is_clean → t ≤ (state_of memory).moment
+    → HadSince memory t (disk_of memory.now)
+counts_now memory t clean before = inl refl

@@ -1,13 +1,11 @@
 -- What the entries of a disk say is at each place.
-use Rattle.std.specs.Prelude.{◌≡◌, ◌⊎◌, ◌<◌, ℕ, List, [], ◌∷◌, ◌++◌, Option, Some, None, drop, length, map, string_bytes, if◌then◌else◌}
+use Rattle.std.specs.Prelude.{◌≡◌, ℕ, List, [], ◌∷◌, ◌++◌, Option, Some, None, drop, length, map, string_bytes, if◌then◌else◌}
 use Rattle.std.specs.Borrow.{Bor}
 use Rattle.std.specs.List.{starts_with}
 use Rattle.std.specs.Str.{bytes_eq}
 use Rattle.relmove_stages_disk.specs.declared.entry.Entry.{Entry}
 use Rattle.relmove_stages_disk.specs.declared.entry.Node.{Node}
 use Rattle.relmove_stages_disk.specs.declared.entry.Node.TheVariants as nodes
-use Rattle.relmove_journal.specs.declared.text_digest.TextDigest.{TextDigest}
-use Rattle.relmove_stages.specs.StageActions.{IsText}
 use Rattle.relmove_trees.specs.FileTrees as trees
 use Rattle.relmove_trees.specs.FileTrees.{Place, Tree, names_of, with_node}
 
@@ -48,7 +46,3 @@ node_at (Some node) = Some (node_of node.now)
 abbrev pub moved : Place → Place → Item → Item
 moved from to item =
     if starts_with bytes_eq item.place from then record item { place = to ++ drop (length from) item.place } else item
-
--- the bytes are fewer than the text has, or they are the text
-abbrev pub IsPart : TextDigest → List ℕ → Type 0
-IsPart digest bytes = (length bytes < digest.length) ⊎ IsText digest bytes

@@ -1,20 +1,22 @@
 //! A disk in memory.
-ghost use Rattle.std.specs.Prelude.{◌≡◌, ◌++◌, ◌∷◌, ◌⊎◌, [], IfErr, IsTrue, OnOk, false, length};
+ghost use Rattle.std.specs.Prelude.{◌≡◌, ◌≢◌, ◌++◌, ◌∷◌, ◌⊎◌, [], IfErr, IsTrue, None, OnOk, Some, false, length};
 ghost use Rattle.relmove_trees.specs.FileTrees.{names_of};
-ghost use Rattle.relmove_stages.specs.StageActions.{action_of};
-ghost use Rattle.relmove_stages_disk.specs.Acting.{HasActed};
+ghost use Rattle.relmove_trees.specs.TreeActions.{Acts, Write};
+ghost use Rattle.relmove_journal.specs.declared.work.Stage.TheVariants.{Writing};
+ghost use Rattle.relmove_stages.specs.StageActions.{IsText, MayWrite, action_of, place_of};
+ghost use Rattle.relmove_stages_disk.specs.Acting.{HasActed, HasWritten};
 ghost use Rattle.relmove_stages_disk.specs.Entries.{entries_tree, node_at};
-ghost use Rattle.relmove_stages_disk.specs.Disks.{GoesOn, count_up, disk_of, faults_after, only_now, state_of};
+ghost use Rattle.relmove_stages_disk.specs.Disks.{GoesOn, WritesOn, bytes_of, count_up, counts_now, disk_of, faults_after, leaves_now, only_now, state_of, texts_of};
 ghost use Rattle.relmove_stages_disk.specs.declared.fault.Fault.TheVariants.{Failed, Refused};
 
 use crate::actions::entries_after;
-use crate::entries::{copies_of, find_node};
-use crate::entry::{Entry, Node};
+use crate::entries::{can_take, copies_of, find_node, with_file};
+use crate::entry::{Entry, Node, is_text};
 use crate::fault::{Failing, Failure, Fault};
 use crate::moment::Moment;
 use relative_path::RelativePath;
-use relmove_journal::{Stage, Work};
-use relmove_stages::{Action, Executor};
+use relmove_journal::{Stage, TextFile, Work};
+use relmove_stages::{Action, Executor, Initiator};
 use std::alloc::Global;
 use std::mem;
 
@@ -29,6 +31,8 @@ pub struct MemoryDisk {
     // How many of these moments are safe, so that a loss of power doesn't leave them.
     durable: usize,
     failure: Option<Failure>,
+    // The new texts that it writes.
+    texts: Vec<Vec<u8>>,
     // How many calls have failed.
     faults: u64,
 }
@@ -45,6 +49,7 @@ impl MemoryDisk {
             past: Vec::new(alloc),
             durable: 0,
             failure: None,
+            texts: Vec::new(alloc),
             faults: 0,
         }
     }
@@ -55,6 +60,16 @@ impl MemoryDisk {
         ensures same { (state_of self.new).disk ≡ (state_of self.old).disk }
     {
         self.failure = failure;
+    }
+
+    /// Has it write these new texts.
+    pub fn set_texts(&mut self, texts: Vec<Vec<u8>>)
+        // the disk stays
+        ensures same { (state_of self.new).disk ≡ (state_of self.old).disk }
+        // it writes these texts
+        ensures texts { texts_of self.new ≡ bytes_of texts.items }
+    {
+        self.texts = texts;
     }
 
     /// What is at a path.
@@ -92,17 +107,30 @@ impl MemoryDisk {
 
 // Returns whether and how this call is to fail, and counts it.
 fn next_failure(failure: &mut Option<Failure>) -> Option<Failing> {
-    let Some(Failure { calls, failing }) = *failure else {
+    let Some(next) = *failure else {
         return None;
     };
-    if calls == 0 {
-        *failure = None;
-        return Some(failing);
+    if next.calls == 0 {
+        *failure = failure_after(next);
+        return Some(next.failing);
     }
     *failure = Some(Failure {
-        calls: calls - 1,
-        failing,
+        calls: next.calls - 1,
+        failing: next.failing,
+        is_kill: next.is_kill,
     });
+    None
+}
+
+// The failure of the calls after one that failed.
+fn failure_after(failure: Failure) -> Option<Failure> {
+    if failure.is_kill {
+        return Some(Failure {
+            calls: 0,
+            failing: Failing::Before,
+            is_kill: true,
+        });
+    }
     None
 }
 
@@ -149,16 +177,101 @@ fn try_act(
     fails_after(failing)
 }
 
+// Writes a new text, if it can be written.
+fn try_write(
+    alloc: Global,
+    now: &mut Moment,
+    past: &mut Vec<Moment>,
+    texts: &[Vec<u8>],
+    number: usize,
+    text: &TextFile,
+    failing: Option<Failing>,
+) -> Result<(), Fault>
+    ensures written { HasWritten (bytes_of texts.now) number text.now (disk_of now.old).tree (disk_of now.new).tree result }
+    ensures journal { now.new.journal ≡ now.old.journal }
+    ensures moments { WritesOn text.now now.old past.old.items now.new past.new.items }
+{
+    if fails_before(failing) {
+        return Err(Fault::Failed);
+    }
+    if number >= texts.len() {
+        return Err(Fault::Refused);
+    }
+    let bytes = texts[number].as_slice();
+    if !is_text(bytes, &text.digest) {
+        return Err(Fault::Refused);
+    }
+    if !can_take(&now.entries, RelativePath::new(text.path.as_str())) {
+        return Err(Fault::Refused);
+    }
+    write_bytes(alloc, now, past, text, bytes, failing)
+}
+
+// Writes the first half of a text, and then all of it.
+fn write_bytes(
+    alloc: Global,
+    now: &mut Moment,
+    past: &mut Vec<Moment>,
+    text: &TextFile,
+    bytes: &[u8],
+    failing: Option<Failing>,
+) -> Result<(), Fault>
+    requires whole { IsText text.now.digest bytes.now }
+    ensures written { OnOk result (Acts (Write (place_of text.now.path) bytes.now) (disk_of now.old).tree (disk_of now.new).tree) }
+    ensures outcome { MayWrite (place_of text.now.path) text.now.digest (disk_of now.old).tree (disk_of now.new).tree }
+    ensures journal { now.new.journal ≡ now.old.journal }
+    ensures moments { WritesOn text.now now.old past.old.items now.new past.new.items }
+    ensures not_refused { IfErr result (λ fault. fault ≡ Refused → ⊥) }
+{
+    let path = RelativePath::new(text.path.as_str());
+    let Ok(part) = with_file(alloc, &now.entries, path, &bytes[..bytes.len() / 2]) else {
+        return Err(Fault::OutOfMemory);
+    };
+    let Ok(whole) = with_file(alloc, &now.entries, path, bytes) else {
+        return Err(Fault::OutOfMemory);
+    };
+    let journal = now.journal;
+    if !put(
+        now,
+        past,
+        Moment {
+            entries: part,
+            journal,
+        },
+    ) {
+        return Err(Fault::OutOfMemory);
+    }
+    if fails_midway(failing) {
+        return Err(Fault::Failed);
+    }
+    if !put(
+        now,
+        past,
+        Moment {
+            entries: whole,
+            journal,
+        },
+    ) {
+        return Err(Fault::OutOfMemory);
+    }
+    fails_after(failing)
+}
+
 // Returns whether the call is to fail before it does anything.
 fn fails_before(failing: Option<Failing>) -> bool {
     matches!(failing, Some(Failing::Before))
 }
 
-// Fails if the call is to fail after it did all.
+// Returns whether the call is to fail in the middle.
+fn fails_midway(failing: Option<Failing>) -> bool {
+    matches!(failing, Some(Failing::Midway))
+}
+
+// Fails if the call is to fail after it did all, or in the middle.
 fn fails_after(failing: Option<Failing>) -> Result<(), Fault>
     ensures { IfErr result (λ fault. fault ≡ Failed) }
 {
-    if matches!(failing, Some(Failing::After)) {
+    if failing.is_some() {
         return Err(Fault::Failed);
     }
     Ok(())
@@ -191,6 +304,27 @@ fn try_put_journal(
         return Err(Fault::OutOfMemory);
     }
     fails_after(failing)
+}
+
+// Puts the first journal, if none is there.
+fn try_begin(
+    alloc: Global,
+    now: &mut Moment,
+    past: &mut Vec<Moment>,
+    durable: &mut usize,
+    failing: Option<Failing>,
+) -> Result<(), Fault>
+    ensures put { OnOk result (now.new.journal ≡ Some Writing) }
+    ensures outcome { (now.new.journal ≡ now.old.journal) ⊎ (now.new.journal ≡ Some Writing) }
+    ensures tree { (disk_of now.new).tree ≡ (disk_of now.old).tree }
+    ensures moments { GoesOn now.old past.old.items now.new past.new.items }
+    ensures durable { (durable.new ≡ durable.old) ⊎ (durable.new ≡ length past.old.items) }
+    ensures refused { IfErr result (λ fault. fault ≡ Refused → now.old.journal ≢ None) }
+{
+    if now.journal.is_some() {
+        return Err(Fault::Refused);
+    }
+    try_put_journal(alloc, now, past, durable, Some(Stage::Writing), failing)
 }
 
 // Fails if the call is to fail. It changes nothing.
@@ -286,6 +420,43 @@ impl Executor for MemoryDisk {
         counted(&mut self.faults, outcome)
     }
 
+    // a crash may leave what is there
+    ghost leaves_now = { leaves_now };
+
+    // what is there might be left since this moment, and since each before
+    ghost counts_now = { counts_now };
+
     // since this moment there is no other
     ghost only_now = { only_now };
+}
+
+impl Initiator for MemoryDisk {
+    // the new texts that it writes
+    ghost texts = { texts_of };
+
+    fn begin(&mut self, _work: &Work) -> Result<(), Fault> {
+        let failing = next_failure(&mut self.failure);
+        let outcome = try_begin(
+            self.alloc,
+            &mut self.now,
+            &mut self.past,
+            &mut self.durable,
+            failing,
+        );
+        counted(&mut self.faults, outcome)
+    }
+
+    fn write(&mut self, number: usize, text: &TextFile) -> Result<(), Fault> {
+        let failing = next_failure(&mut self.failure);
+        let outcome = try_write(
+            self.alloc,
+            &mut self.now,
+            &mut self.past,
+            &self.texts,
+            number,
+            text,
+            failing,
+        );
+        counted(&mut self.faults, outcome)
+    }
 }

@@ -2,7 +2,7 @@
 ghost use Rattle.std.specs.Prelude.{◌≡◌, ◌++◌, ◌∷◌, [], IfNone, IfOk, IfSome, IsTrue, List, None, OnOk, Some, ℕ, false, map};
 ghost use Rattle.relative_path.specs.RelativePath.{path_components, path_text};
 ghost use Rattle.relative_path.specs.Steps.{Step, components};
-ghost use Rattle.relmove_trees.specs.FileTrees.{CanTake, Directory, HasBelow, HasNothing, after_rename, names_of, with_node};
+ghost use Rattle.relmove_trees.specs.FileTrees.{CanTake, Directory, File, HasBelow, HasNothing, after_rename, names_of, with_node};
 ghost use Rattle.relmove_stages_disk.specs.Entries.{IsBelow, entries_tree, item_of, moved, node_at};
 
 use crate::entry::{Entry, Node, is_directory, is_nothing};
@@ -110,6 +110,25 @@ pub(crate) fn with_directory(
     copies.push(Entry {
         path: RelativePathBuf::from_text(alloc, path.as_str())?,
         node: Node::Directory,
+    })?;
+    push_copies(alloc, &mut copies, entries)?;
+    Ok(copies)
+}
+
+// Copies the entries, with a file at a path.
+pub(crate) fn with_file(
+    alloc: Global,
+    entries: &[Entry],
+    path: RelativePath<'_>,
+    bytes: &[u8],
+) -> Result<Vec<Entry>, AllocError>
+    ensures { IfOk result (λ copies. entries_tree copies.items
+        ≡ with_node (names_of (path_text path.entry)) (Some (File bytes.now)) (entries_tree entries.now)) }
+{
+    let mut copies = Vec::new(alloc);
+    copies.push(Entry {
+        path: RelativePathBuf::from_text(alloc, path.as_str())?,
+        node: Node::File(bytes.to_vec(alloc)?),
     })?;
     push_copies(alloc, &mut copies, entries)?;
     Ok(copies)

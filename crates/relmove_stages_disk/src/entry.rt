@@ -1,8 +1,8 @@
 //! A path, and what is there.
 ghost use Rattle.std.specs.Prelude.{◌≡◌, ◌≢◌, ◌↔◌, IfOk, IsSome, IsTrue, List, None, Some, false, ℕ};
 ghost use Rattle.relmove_trees.specs.FileTrees.{Directory, File};
-ghost use Rattle.relmove_stages.specs.StageActions.{IsText};
-ghost use Rattle.relmove_stages_disk.specs.Entries.{IsPart, item_of, node_at, node_of};
+ghost use Rattle.relmove_stages.specs.StageActions.{IsPart, IsText};
+ghost use Rattle.relmove_stages_disk.specs.Entries.{item_of, node_at, node_of};
 
 use relative_path::RelativePathBuf;
 use relmove_journal::TextDigest;
@@ -80,7 +80,7 @@ pub(crate) fn is_directory(node: Option<&Node>) -> bool
 }
 
 // Returns whether the bytes have the digest.
-fn is_text(bytes: &[u8], digest: &TextDigest) -> bool
+pub(crate) fn is_text(bytes: &[u8], digest: &TextDigest) -> bool
     ensures { IsTrue result ↔ IsText digest.now bytes.now }
 {
     TextDigest::of(bytes) == *digest

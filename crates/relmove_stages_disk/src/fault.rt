@@ -20,6 +20,8 @@ pub enum Fault {
 pub enum Failing {
     /// Before it does anything.
     Before,
+    /// After it wrote the first half of a new text. Any other call did all.
+    Midway,
     /// After it did all.
     After,
 }
@@ -31,6 +33,8 @@ pub struct Failure {
     pub calls: usize,
     /// How it fails.
     pub failing: Failing,
+    /// Whether all later calls fail too, before they do anything, as after a kill.
+    pub is_kill: bool,
 }
 
 impl From<AllocError> for Fault {

@@ -81,8 +81,14 @@ const PLACED: &[(&str, &str)] = &[
     (".relmove-7", "h/g/p.md"),
 ];
 
+/// The new text of the page.
+pub const TEXT: &str = "[a](../../b)";
+
 /// How many calls a run makes from its first rename to its end.
 pub const CALLS: usize = 27;
+
+/// How many calls a run makes.
+pub const ALL_CALLS: usize = 30;
 
 fn text_file(alloc: Global, path: &str, text: &str) -> Result<TextFile, AllocError> {
     Ok(TextFile {

@@ -1,6 +1,6 @@
 //! An executor of which nothing is known, over a disk in memory. So a test needs no proof that its actions can be done.
-use relmove_journal::{Stage, Work};
-use relmove_stages::{Action, Executor, finish, turn_back};
+use relmove_journal::{Stage, TextFile, Work};
+use relmove_stages::{Action, Executor, Halt, Initiator, carry_out, finish, turn_back};
 use relmove_stages_disk::{Fault, MemoryDisk};
 
 /// A disk in memory of which nothing is known.
@@ -12,7 +12,7 @@ pub struct Trial {
 impl Executor for Trial {
     type Fault = Fault;
 
-    ghost use Rattle.relmove_stages.specs.States.{unknown};
+    ghost use Rattle.relmove_stages.specs.States.{not_clean, unknown};
 
     ghost state = { λ trial. unknown };
 
@@ -36,7 +36,30 @@ impl Executor for Trial {
         self.disk.end(work)
     }
 
+    ghost leaves_now = { λ trial clean. not_clean clean };
+
+    ghost counts_now = { λ trial t clean before. not_clean clean };
+
     ghost only_now = { λ trial c left. left };
+}
+
+impl Initiator for Trial {
+    ghost use Rattle.std.specs.Prelude.{[]};
+
+    ghost texts = { λ trial. [] };
+
+    fn begin(&mut self, work: &Work) -> Result<(), Fault> {
+        self.disk.begin(work)
+    }
+
+    fn write(&mut self, number: usize, text: &TextFile) -> Result<(), Fault> {
+        self.disk.write(number, text)
+    }
+}
+
+/// Carries out a run.
+pub fn carry_out_trial(trial: &mut Trial, work: &Work) -> Result<(), Halt<Fault>> {
+    carry_out(trial, work)
 }
 
 /// Does what is left of a stage and of those after it, and ends the run.

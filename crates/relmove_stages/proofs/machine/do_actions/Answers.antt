@@ -1,10 +1,9 @@
 use Rattle.std.proofs.Common.{◌≡◌, ◌+◌, suc, arith, sym, ◌∙◌, subst}
 use Rattle.std.proofs.lemmas.Option.{slice_get_within}
-use Rattle.relmove_stages.specs.Runs.{tree_at}
 use Rattle.relmove_stages.specs.StageActions.{action_of}
 use Rattle.relmove_stages.specs.Stages.{stage_actions}
-use Rattle.relmove_stages.proofs.ChainLemmas.{IsReached, past_end, reached-all}
-use Rattle.relmove_stages.proofs.MachineLemmas.{act-cause, act-guards, act-reached, on_err}
+use Rattle.relmove_stages.proofs.ChainLemmas.{past_end}
+use Rattle.relmove_stages.proofs.MachineLemmas.{IsStageReached, act-cause, act-guards, act-reached, on_err, reached-last}
 use Rattle.relmove_stages.proofs.machine.do_actions.Goals as goal
 
 pub returns-in_err-act-clause-guards : goal.returns-in_err-act-clause-guards
@@ -52,8 +51,7 @@ loop-action-preserved g c =
           let guards = c.loop-action.invariant.guards before in
           let next : suc c.loop-action.number ≡ c.loop-action.number + 1 = omega arith in
           subst
-          (λ k. IsReached (stage_actions c.args.work.now c.args.stage) (tree_at g.trees c.args.stage) k
-          (s.state c.act.new.self).disk.tree) next
+          (λ k. IsStageReached c.args.work.now g.trees c.args.stage k (s.state c.act.new.self).disk.tree) next
           (act-reached c.args.work.now g.trees (c.requires.1.1.0 (guards.leaves.clean before)) c.args.stage c.loop-action.number
           (action_of c.in-Some.action) (s.state c.loop-action.executor) (s.state c.act.new.self) (sym c.in-Some.ensures.listed)
           (c.loop-action.invariant.reached before) (c.in_ok-act.ensures.does clean));
@@ -63,7 +61,6 @@ pub returns-clause-done : goal.returns-clause-done
 returns-clause-done g c =
     let s = g.E.Executor in
     λ clean.
-    reached-all (stage_actions c.args.work.now c.args.stage) (tree_at g.trees c.args.stage) c.loop-action.number
-    (s.state c.loop-action.executor).disk.tree
+    reached-last c.args.work.now g.trees c.args.stage c.loop-action.number (s.state c.loop-action.executor).disk.tree
     (past_end (stage_actions c.args.work.now c.args.stage) c.loop-action.number c.in_default.ensures.listed)
     (c.loop-action.invariant.reached clean)

@@ -1,7 +1,7 @@
 use Rattle.std.proofs.Common.{◌≡◌, ◌-◌, Some, IsTrue, length}
-use Rattle.relmove_stages.specs.Runs.{Guards, tree_at}
+use Rattle.relmove_stages.specs.Runs.{Guards}
 use Rattle.relmove_stages.specs.Stages.{stage_actions}
-use Rattle.relmove_stages.proofs.ChainLemmas.{IsReached}
+use Rattle.relmove_stages.proofs.MachineLemmas.{IsStageReached}
 use Rattle.relmove_stages.proofs.machine.do_actions.Given as goal
 
 -- the first actions are done, and maybe more
@@ -12,7 +12,7 @@ invariant-loop-action g l =
       guards : IsTrue (s.state l.executor).is_clean → Guards l.work g.trees (s.state l.initial.executor) (s.state l.executor);
       journal : IsTrue (s.state l.executor).is_clean → (s.state l.executor).disk.journal ≡ Some l.stage;
       reached : IsTrue (s.state l.executor).is_clean
-          → IsReached (stage_actions l.work l.stage) (tree_at g.trees l.stage) l.number (s.state l.executor).disk.tree;
+          → IsStageReached l.work g.trees l.stage l.number (s.state l.executor).disk.tree;
     }
 
 abbrev pub decreases-loop-action : goal.decreases-loop-action

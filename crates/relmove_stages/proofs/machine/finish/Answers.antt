@@ -1,7 +1,7 @@
 use Rattle.std.proofs.Common.{IsTrue, arith, sym}
 use Rattle.relmove_stages.specs.Runs.{IsAtStage, Leads}
 use Rattle.relmove_stages.proofs.LeadsLemmas.{ends-before}
-use Rattle.relmove_stages.proofs.MachineLemmas.{end-ends, end-guards, next-at, next-guards, on_err, on_err-map, on_ok-map}
+use Rattle.relmove_stages.proofs.MachineLemmas.{end-ends, end-guards, next-at, next-guards, on_err, on_err-map, on_ok-map, put-there}
 use Rattle.relmove_stages.proofs.StateLemmas.{guards-moment, guards-then}
 use Rattle.relmove_stages.proofs.machine.finish.Goals as goal
 
@@ -156,3 +156,20 @@ returns-clause-cause g c =
     let less = (c.loop-next.invariant.guards (c.end.ensures.crash.clean clean)).leaves.no_less in
     let failed = cause clean in
     omega (arith, less, failed)) c.end.ensures.cause
+
+pub returns-in_err-enter-clause-whole : goal.returns-in_err-enter-clause-whole
+returns-in_err-enter-clause-whole g c =
+    let s = g.E.Executor in
+    λ clean none.
+    absurd (put-there (s.state c.loop-next.executor).disk.journal (s.state c.enter.new.self).disk.journal c.loop-next.at c.in-Some.next
+    (c.loop-next.invariant.journal (c.enter.ensures.crash.clean clean)) (c.enter.ensures.outcome clean) none)
+
+pub returns-clause-whole : goal.returns-clause-whole
+returns-clause-whole g c =
+    let s = g.E.Executor in
+    λ clean none.
+    let before = c.end.ensures.crash.clean clean in
+    c.loop-next.invariant.ends (s.state c.end.new.self).disk.tree
+    (end-ends c.args.work.now g.trees (c.requires.1.1.0 ((c.loop-next.invariant.guards before).leaves.clean before))
+    c.loop-next.at (s.state c.loop-next.executor) (s.state c.end.new.self) (sym c.in_default.ensures.next)
+    (c.loop-next.invariant.done before) (c.end.ensures.tree clean))

@@ -1,7 +1,6 @@
 use Rattle.std.proofs.Common.{◌≡◌, Some, IsTrue}
-use Rattle.relmove_stages.specs.Runs.{EndsFrom, Guards, tree_at}
-use Rattle.relmove_stages.specs.StageActions.{IsAfter}
-use Rattle.relmove_stages.specs.Stages.{stage_actions, stages_left}
+use Rattle.relmove_stages.specs.Runs.{EndsFrom, Guards, IsStageDone}
+use Rattle.relmove_stages.specs.Stages.{stages_left}
 use Rattle.relmove_trees.specs.FileTrees.{Tree}
 use Rattle.relmove_stages.proofs.machine.finish.Given as goal
 
@@ -16,7 +15,7 @@ invariant-loop-next g l =
       guards : IsTrue (s.state l.executor).is_clean → Guards l.work g.trees (s.state l.fn.executor) (s.state l.executor);
       journal : IsTrue (s.state l.executor).is_clean → (s.state l.executor).disk.journal ≡ Some l.at;
       done : IsTrue (s.state l.executor).is_clean
-          → IsAfter (stage_actions l.work l.at) (tree_at g.trees l.at) (s.state l.executor).disk.tree;
+          → IsStageDone l.work g.trees l.at (s.state l.executor).disk.tree;
       ends : (tree : Tree) → EndsFrom l.work g.trees l.at tree → EndsFrom l.work g.trees l.fn.stage tree;
     }
 

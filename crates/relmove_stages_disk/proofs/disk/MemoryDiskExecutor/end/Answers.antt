@@ -1,4 +1,4 @@
-use Rattle.std.proofs.Common.{IsTrue, None, refl, sym, ◌∙◌, ◌≡◌, ◌-◌, ◌^◌}
+use Rattle.std.proofs.Common.{IsTrue, None, sym, ◌∙◌, ◌≡◌, ◌-◌, ◌^◌}
 use Rattle.std.specs.Prelude.{nat_lt}
 use Rattle.relmove_stages_disk.proofs.DisksLemmas.{has_cause-always, no_less, not_refused, ok_then, one_call}
 use Rattle.relmove_stages_disk.proofs.disk.MemoryDiskExecutor.end.Goals as goal

@@ -1,4 +1,4 @@
-use Rattle.std.proofs.Common.{IsTrue, Some, refl, sym, ◌∙◌, ◌≡◌, ◌-◌, ◌^◌}
+use Rattle.std.proofs.Common.{IsTrue, Some, sym, ◌∙◌, ◌≡◌, ◌-◌, ◌^◌}
 use Rattle.std.specs.Prelude.{nat_lt}
 use Rattle.relmove_stages_disk.proofs.DisksLemmas.{has_cause-always, no_less, not_refused, ok_then, one_call}
 use Rattle.relmove_stages_disk.proofs.disk.MemoryDiskExecutor.enter.Goals as goal

@@ -1,0 +1,23 @@
+use Rattle.std.proofs.Common.{◌≡◌, ◌-◌, Some, IsTrue, length}
+use Rattle.relmove_journal.specs.declared.work.Stage.TheVariants.{Writing}
+use Rattle.relmove_stages.specs.Runs.{Guards, HasParts}
+use Rattle.relmove_stages.proofs.BeginLemmas.{IsLeft}
+use Rattle.relmove_stages.proofs.beginning.write_texts.Given as goal
+
+-- the first texts are written, and those that are left lead to the tree with all of them
+abbrev pub invariant-loop-number : goal.invariant-loop-number
+invariant-loop-number g l =
+    let s = g.E.Executor in
+    let t = g.E.Initiator in
+    record {
+      texts : t.texts l.executor ≡ t.texts l.fn.executor;
+      guards : IsTrue (s.state l.executor).is_clean → Guards l.work g.trees (s.state l.fn.executor) (s.state l.executor);
+      journal : IsTrue (s.state l.executor).is_clean → (s.state l.executor).disk.journal ≡ Some Writing;
+      parts : IsTrue (s.state l.executor).is_clean
+          → HasParts l.work.texts.items g.trees.before (s.state l.executor).disk.tree;
+      left : IsTrue (s.state l.executor).is_clean
+          → IsLeft l.work (t.texts l.fn.executor) g.trees l.number (s.state l.executor).disk.tree;
+    }
+
+abbrev pub decreases-loop-number : goal.decreases-loop-number
+decreases-loop-number g l = length l.work.texts.items - l.number
