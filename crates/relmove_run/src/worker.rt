@@ -1,6 +1,7 @@
 //! Does the work of a run, from any stage on. Each action asks first whether it is done.
 ghost use Rattle.std.specs.Prelude.{[]};
-ghost use Rattle.relmove_stages.specs.States.{not_clean, unknown};
+ghost use Rattle.relmove_stages.specs.States.{unknown};
+ghost use Rattle.relmove_stages.proofs.ForCallers.{not_clean};
 
 use crate::disk::{
     Above, PageChange, RunFile, Written, are_names_of_one_file, carry, copy_of, digest_at,

@@ -250,7 +250,8 @@ module _ (work : Work) (trees : Trees) (leads : Leads work trees) where
       → IsOnStage actions other tree
   on_start actions one other tree same on = subst (λ (t : Tree). IsOnStage actions t tree) same on
 
-  next_begins : (one next : Stage) (tree : Tree) → Some one ≡ Some next → BeginsAt work trees one tree → BeginsAt work trees next tree
+  next_begins : (one next : Stage) (tree : Tree) → Some one ≡ Some next → BeginsAt work trees one tree
+      → BeginsAt work trees next tree
   next_begins one next tree some begins = subst (λ (s : Stage). BeginsAt work trees s tree) (next_is one next some) begins
 
   -- a stage leads to where the next one begins

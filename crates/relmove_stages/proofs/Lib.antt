@@ -6,3 +6,4 @@ pub mod LeadsLemmas
 pub mod StateLemmas
 pub mod MachineLemmas
 pub mod BeginLemmas
+pub mod ForCallers

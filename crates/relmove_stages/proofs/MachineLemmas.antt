@@ -25,7 +25,8 @@ on_err-map P Q (Ok x) to p = tt
 on_err-map P Q (Err e) to p = to p
 
 -- after a journal was put in the place of another there is one
-pub put-there : (old new : Option Stage) (stage next : Stage) → old ≡ Some stage → (new ≡ old) ⊎ (new ≡ Some next) → new ≡ None → ⊥
+pub put-there : (old new : Option Stage) (stage next : Stage) → old ≡ Some stage → (new ≡ old) ⊎ (new ≡ Some next)
+    → new ≡ None → ⊥
 put-there old new stage next at (inl same) none = cc (sym none ∙ same ∙ at)
 put-there old new stage next at (inr put) none = cc (sym none ∙ put)
 

@@ -21,7 +21,8 @@ none-end (text ∷ texts) end tree leads place none =
 
 -- where nothing is no text can be removed
 none-apart : (texts : List TextFile) (P : Tree → Type 0) (tree : Tree) → LeadsTo (map removes texts) P tree
-    → (place : Place) → tree place ≡ None → (i : ℕ) (text : TextFile) → slice_get texts i ≡ Some text → place ≢ place_of text.path
+    → (place : Place) → tree place ≡ None → (i : ℕ) (text : TextFile) → slice_get texts i ≡ Some text
+    → place ≢ place_of text.path
 none-apart [] P tree leads place none i text at same = absurd (cc at)
 none-apart (first ∷ texts) P tree leads place none zero text at same =
     let is : first ≡ text = cc at in
@@ -98,7 +99,8 @@ parts-lead (first ∷ texts) before written tree leads parts = (
       | inr differ ↦ by differ (ap (λ (t : Tree). t place) acts ∙ with_node-elsewhere top None tree place differ) (parts place)
     ]
       where
-        at_rest : place ≢ top → next place ≡ tree place → (i : ℕ) (text : TextFile) → slice_get (first ∷ texts) i ≡ Some text
+        at_rest : place ≢ top → next place ≡ tree place → (i : ℕ) (text : TextFile)
+            → slice_get (first ∷ texts) i ≡ Some text
             → place ≡ place_of text.path → HasPart place text.digest tree → HasNewPart texts place next
         at_rest differ stays zero text at same part =
             let is : text ≡ first = sym (cc at) in

@@ -35,10 +35,6 @@ unknown = record {
   is_clean = false;
 }
 
--- of nothing it isn't known that it is clean
-pub not_clean : {P : Type 0} → IsTrue unknown.is_clean → P
-not_clean clean = absurd (cc clean)
-
 -- The calls between two states leave only disks that have P, or what might have been left before. What might have been left
 -- at an earlier moment stays so.
 pub record Leaves (P : Disk → Type 0) (old new : State) : Type 0 where

@@ -51,7 +51,8 @@ HadSince-goes old new (inr past) k disk (inr had) =
     ]
 
 -- what was there at an earlier moment stays
-Had-longer : (past : List Moment) (last : Moment) (k : ℕ) (disk : Disk) → Had (drop k past) disk → Had (drop k (past ++ last ∷ [])) disk
+Had-longer : (past : List Moment) (last : Moment) (k : ℕ) (disk : Disk) → Had (drop k past) disk
+    → Had (drop k (past ++ last ∷ [])) disk
 Had-longer [] last k disk had = absurd (none_had k disk had)
 Had-longer (moment ∷ past) last zero disk (inl is) = inl is
 Had-longer (moment ∷ past) last zero disk (inr had) = inr (Had-longer past last zero disk had)

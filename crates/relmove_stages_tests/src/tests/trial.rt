@@ -12,7 +12,8 @@ pub struct Trial {
 impl Executor for Trial {
     type Fault = Fault;
 
-    ghost use Rattle.relmove_stages.specs.States.{not_clean, unknown};
+    ghost use Rattle.relmove_stages.specs.States.{unknown};
+    ghost use Rattle.relmove_stages.proofs.ForCallers.{not_clean};
 
     ghost state = { λ trial. unknown };
 

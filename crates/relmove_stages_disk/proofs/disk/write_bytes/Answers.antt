@@ -30,7 +30,8 @@ returns-then-fails_midway-clause-moments c =
     (entries_tree c.deref.result.now)) place
     ∙ ap (λ entries. with_node (place_of c.args.text.now.path) (Some (File (take (length c.args.bytes.now / 2) c.args.bytes.now)))
     (entries_tree entries)) c.deref.ensures.value in
-    writes-on c.args.text.now c.args.bytes.now (length c.args.bytes.now / 2) c.args.now.now c.put.new.now c.put.new.now c.args.past.now.items
+    writes-on c.args.text.now c.args.bytes.now (length c.args.bytes.now / 2) c.args.now.now
+    c.put.new.now c.put.new.now c.args.past.now.items
     c.put.new.past.items c.put.new.past.items c.requires.whole (ap (λ (m : Moment). m.journal) (c.put.ensures.next yes)) acts
     (c.put.ensures.past yes) (inl (refl, refl))
 
@@ -45,7 +46,8 @@ returns-then-not-put-2-clause-moments c =
     ∙ ap (λ entries. with_node (place_of c.args.text.now.path) (Some (File (take (length c.args.bytes.now / 2) c.args.bytes.now)))
     (entries_tree entries)) c.deref.ensures.value in
     let no : c.put-2.result ≡ false = search rules in
-    writes-on c.args.text.now c.args.bytes.now (length c.args.bytes.now / 2) c.args.now.now c.put.new.now c.put-2.new.now c.args.past.now.items
+    writes-on c.args.text.now c.args.bytes.now (length c.args.bytes.now / 2) c.args.now.now
+    c.put.new.now c.put-2.new.now c.args.past.now.items
     c.put.new.past.items c.put-2.new.past.items c.requires.whole (ap (λ (m : Moment). m.journal) (c.put.ensures.next yes)) acts
     (c.put.ensures.past yes) (inl (c.put-2.ensures.stays no, c.put-2.ensures.past_stays no))
 
@@ -60,6 +62,7 @@ returns-clause-moments c =
     ∙ ap (λ entries. with_node (place_of c.args.text.now.path) (Some (File (take (length c.args.bytes.now / 2) c.args.bytes.now)))
     (entries_tree entries)) c.deref.ensures.value in
     let yes_2 : IsTrue c.put-2.result = search rules in
-    writes-on c.args.text.now c.args.bytes.now (length c.args.bytes.now / 2) c.args.now.now c.put.new.now c.put-2.new.now c.args.past.now.items
+    writes-on c.args.text.now c.args.bytes.now (length c.args.bytes.now / 2) c.args.now.now
+    c.put.new.now c.put-2.new.now c.args.past.now.items
     c.put.new.past.items c.put-2.new.past.items c.requires.whole (ap (λ (m : Moment). m.journal) (c.put.ensures.next yes)) acts
     (c.put.ensures.past yes) (inr (c.put-2.ensures.past yes_2))

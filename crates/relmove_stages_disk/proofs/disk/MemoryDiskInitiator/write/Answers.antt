@@ -19,7 +19,8 @@ returns-clause-written c =
     (subst (λ r. HasWritten (texts_of c.args.self.now) c.args.number c.args.text.now
     (entries_tree c.args.self.now.now.entries.items)
     (entries_tree c.try_write-outcome.new.now.entries.items) r)
-    (sym c.counted.ensures.outcome) (subst (λ texts. HasWritten (bytes_of texts) c.args.number c.args.text.now (entries_tree c.args.self.now.now.entries.items)
+    (sym c.counted.ensures.outcome) (subst (λ texts. HasWritten (bytes_of texts) c.args.number c.args.text.now
+    (entries_tree c.args.self.now.now.entries.items)
     (entries_tree c.try_write-outcome.new.now.entries.items) c.try_write-outcome.result) c.deref.ensures.value
     c.try_write-outcome.ensures.written))
 
@@ -28,7 +29,8 @@ returns-clause-outcome c =
     λ clean.
     HasWritten-may (texts_of c.args.self.now) c.args.number c.args.text.now (entries_tree c.args.self.now.now.entries.items)
     (entries_tree c.try_write-outcome.new.now.entries.items)
-    c.try_write-outcome.result (subst (λ texts. HasWritten (bytes_of texts) c.args.number c.args.text.now (entries_tree c.args.self.now.now.entries.items)
+    c.try_write-outcome.result (subst (λ texts. HasWritten (bytes_of texts) c.args.number c.args.text.now
+    (entries_tree c.args.self.now.now.entries.items)
     (entries_tree c.try_write-outcome.new.now.entries.items) c.try_write-outcome.result) c.deref.ensures.value
     c.try_write-outcome.ensures.written)
 
@@ -52,7 +54,8 @@ returns-clause-crash c =
       c.try_write-outcome.ensures.journal,
       HasWritten-may (texts_of c.args.self.now) c.args.number c.args.text.now (entries_tree c.args.self.now.now.entries.items)
           (entries_tree c.try_write-outcome.new.now.entries.items)
-          c.try_write-outcome.result (subst (λ texts. HasWritten (bytes_of texts) c.args.number c.args.text.now (entries_tree c.args.self.now.now.entries.items)
+          c.try_write-outcome.result (subst (λ texts. HasWritten (bytes_of texts) c.args.number c.args.text.now
+          (entries_tree c.args.self.now.now.entries.items)
           (entries_tree c.try_write-outcome.new.now.entries.items) c.try_write-outcome.result) c.deref.ensures.value
           c.try_write-outcome.ensures.written),
     )
@@ -65,6 +68,7 @@ returns-clause-cause c =
     (λ is can. HasWritten-refused (texts_of c.args.self.now) c.args.number c.args.text.now
     (entries_tree c.args.self.now.now.entries.items)
     (entries_tree c.try_write-outcome.new.now.entries.items)
-    c.try_write-outcome.result (subst (λ texts. HasWritten (bytes_of texts) c.args.number c.args.text.now (entries_tree c.args.self.now.now.entries.items)
+    c.try_write-outcome.result (subst (λ texts. HasWritten (bytes_of texts) c.args.number c.args.text.now
+    (entries_tree c.args.self.now.now.entries.items)
     (entries_tree c.try_write-outcome.new.now.entries.items) c.try_write-outcome.result) c.deref.ensures.value
     c.try_write-outcome.ensures.written) (sym c.counted.ensures.outcome ∙ is) can)
