@@ -1,12 +1,15 @@
--- Theorems that proofs of other crates may cite: on lists of names, and on normal lists and texts.
-use Rattle.std.proofs.Common.{◌≡◌, ℕ, List, ◌++◌, map}
+-- Theorems that proofs of other crates may cite: on lists of names, on normal lists and texts, and on the size of an index.
+use Rattle.std.proofs.Common.{◌≡◌, ◌≢◌, ℕ, ◌<◌, ◌≤◌, List, ◌++◌, IsSome, map}
 use Rattle.relative_path.specs.Steps.{Step, name, components}
 use Rattle.relative_path.specs.Walk.{IsSame}
 use Rattle.relative_path.specs.Normalizing.{AreNames, IsNormal, IsNormalText, IsNormalTextOf}
 use Rattle.relative_path.proofs.ForCallers.{IsSame-refl}
 use Rattle.relative_path_places.specs.Views.{view_text, view_components}
+use Rattle.relative_path_places.specs.IndexEntries.{number_at, entry_count}
+use Rattle.relative_path_places.specs.declared.place_index.PlaceIndex.{PlaceIndex}
 use Rattle.relative_path_places.specs.declared.normal_view.NormalView.{NormalView}
 use Rattle.relative_path_places.proofs.NormalPathLemmas as normal
+use Rattle.relative_path_places.proofs.IndexEntriesLemmas as entries
 
 -- a list of names is made from the names
 pub AreNames-names : (cs : List Step) → AreNames cs → (ns : List (List ℕ)) × (cs ≡ map name ns)
@@ -34,3 +37,9 @@ pub IsNormalTextOf-view : (view : NormalView) → IsNormalTextOf (view_component
 IsNormalTextOf-view view =
     normal.IsNormalTextOf-same (view_components view) (view_text view) (IsNormalText-view view)
     (IsSame-refl (view_components view))
+
+-- texts that differ, and that an index all has, are no more than its entries
+pub le-entry_count : (index : PlaceIndex) (text : ℕ → List ℕ) (k : ℕ)
+    → ((i j : ℕ) → i < j → j < k → text i ≢ text j) → ((i : ℕ) → i < k → IsSome (number_at index (text i)))
+    → k ≤ entry_count index
+le-entry_count = entries.le-entry_count

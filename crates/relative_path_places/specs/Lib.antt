@@ -2,4 +2,5 @@ pub mod Places
 pub mod OneProof
 pub mod Views
 pub mod PlaceIndex
+pub mod IndexEntries
 pub mod Ways

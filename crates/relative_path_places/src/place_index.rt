@@ -4,8 +4,9 @@ ghost use Rattle.relative_path.specs.Steps.{Step, components};
 ghost use Rattle.relative_path.specs.Walk.{IsSame};
 ghost use Rattle.relative_path.specs.Normalizing.{IsNormalText, IsNormalTextOf};
 ghost use Rattle.relative_path.specs.RelativePath.{path_components};
+ghost use Rattle.relative_path_places.specs.IndexEntries.{number_at};
 ghost use Rattle.relative_path_places.specs.PlaceIndex.{Indexes, IsFirstAt, IsFoundAt};
-ghost use Rattle.relative_path_places.specs.Views.{view_components};
+ghost use Rattle.relative_path_places.specs.Views.{view_components, view_text};
 
 use crate::normal_path::NormalPath;
 use crate::normal_view::NormalView;
@@ -126,6 +127,8 @@ impl PlaceIndex {
         // less than the number of paths
         ensures within { IfSome result (λ k. (paths : List (List Step)) → Indexes paths self.now
             → k < length paths) }
+        // the number under the path's text
+        ensures entry { result ≡ number_at self.now path.now }
     {
         self.get_view(path.view())
     }
@@ -146,6 +149,8 @@ impl PlaceIndex {
         // less than the number of paths
         ensures within { IfSome result (λ k. (paths : List (List Step)) → Indexes paths self.now
             → k < length paths) }
+        // the number under the path's text
+        ensures entry { result ≡ number_at self.now (view_text path.entry) }
     {
         self.by_text.get(path.as_relative_path().as_str()).copied()
     }

@@ -194,7 +194,7 @@ module _ {entries : List Entry} {pages changed : List (List Step)} {moves : List
     pub name_own : (k : ℕ) (step : List ℕ × List ℕ) → k < length actions.placed → get_or actions.placed k step ≡ step
         → is_reserved_text step.0 ≡ true
     name_own k step within is =
-        let (number, fits, numbered) = free_come.numbered k [] (inside k within) in
+        let (number, numbered) = free_come.numbered k [] (inside k within) in
         ap is_reserved_text (sym (come_at k step [] within is) ∙ numbered) ∙ is_reserved_text-numbered number
 
     -- two names from which something comes

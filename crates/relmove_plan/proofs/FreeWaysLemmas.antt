@@ -92,7 +92,7 @@ module _ {entries : List Entry} {pages changed : List (List Step)} {moves : List
         let gone = run.removed c [] inside in
         let staging = gone.removes.staging in
         let (i, within, is) = gone.removes.leaves in
-        let (number, fits, numbered) = run.names.numbered i [] (rw length-map within) in
+        let (number, numbered) = run.names.numbered i [] (rw length-map within) in
         let is_name : is_reserved_text staging ≡ true =
         ap is_reserved_text (sym (carrying.left_at run i (gone.old, staging) [] within is) ∙ numbered)
         ∙ is_reserved_text-numbered number in

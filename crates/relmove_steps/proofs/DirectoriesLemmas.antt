@@ -534,9 +534,9 @@ move_at-moves_to_names moves names k within also =
     (get_or-zip moves names k (move_of [] [], []) within also)
 
 -- the new paths of the moves have file names, and so has each name
-pub AreNamed-moves_to_names : (moves : List Move) (names : List (List ℕ)) (next : ℕ) → length names ≡ length moves
-    → AreNamed moves → All (IsNumbered next) names → AreNamed (moves_to_names moves names)
-AreNamed-moves_to_names moves names next count named numbered = λ k l lacks.
+pub AreNamed-moves_to_names : (moves : List Move) (names : List (List ℕ)) (last : ℕ) → length names ≡ length moves
+    → AreNamed moves → All (IsNumbered last) names → AreNamed (moves_to_names moves names)
+AreNamed-moves_to_names moves names last count named numbered = λ k l lacks.
     let within : k < length moves = rw (length-moves_to_names moves names count) at l in
     let also : k < length names = rw count within in
     elim (rw (move_at-moves_to_names moves names k within also) at lacks) [
@@ -544,7 +544,7 @@ AreNamed-moves_to_names moves names next count named numbered = λ k l lacks.
       | inr lacks_name ↦
           let is = numbered k [] also in
           let found : last_name (components (get_or names k [])) ≡ Some (numbered_name is.number) =
-          ap last_name (ap components is.name_is ∙ components-numbered_name is.number is.fits)
+          ap last_name (ap components is.name_is ∙ components-numbered_name is.number)
           ∙ last_name-name [] (numbered_name is.number) in
           none-some (numbered_name is.number) (sym lacks_name ∙ found)
     ]

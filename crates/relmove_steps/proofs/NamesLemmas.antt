@@ -1,11 +1,9 @@
 -- Staging names: the next one differs from those before it.
-use Rattle.std.proofs.Common.{Bool, true, false, true≢false, Decides, ◌≡◌, ◌≢◌, ℕ, ◌<◌, ◌≤◌, ◌+◌, ◌^◌, List, [], ◌∷◌, ◌++◌, String, Global, codes, length, map, take, get_or, string_bytes, refl, sym, ap, ◌∙◌, append_assoc, arith}
-use Rattle.std.specs.Prelude.{decimal}
+use Rattle.std.proofs.Common.{Bool, true, false, true≢false, Decides, ◌≡◌, ◌≢◌, ℕ, ◌<◌, ◌≤◌, ◌+◌, List, [], ◌∷◌, ◌++◌, String, Global, codes, length, map, take, get_or, string_bytes, refl, sym, ap, ◌∙◌, append_assoc, arith}
 use Rattle.std.specs.Str.{bytes_eq}
 use Rattle.std.specs.List.Sorted.{IsPermutation}
 use Rattle.std.specs.List.{IsDistinct}
 use Rattle.std.proofs.lemmas.Bool.Decides.{same_from_decides}
-use Rattle.std.proofs.lemmas.Fmt.{decimal_injective}
 use Rattle.std.proofs.lemmas.List.{append_cancel_left, map_more, take_all}
 use Rattle.std.proofs.lemmas.List.Elements.{All-push, All-weaker}
 use Rattle.std.proofs.lemmas.List.Quantifiers.{all_pairs_push}
@@ -16,7 +14,9 @@ use Rattle.relative_path.specs.Steps.{Step, components}
 use Rattle.relative_path_places.specs.PlaceIndex.{IsNoneAt}
 use Rattle.relative_path_places.specs.declared.place_index.PlaceIndex.{PlaceIndex}
 use Rattle.relmove_steps.specs.declared.staging.FreeNames.{FreeNames}
+use Rattle.relmove_steps.specs.Numbers.{numeral}
 use Rattle.relmove_steps.specs.StagingNames.{numbered_name, IsNumbered, AreFreeNames, AreDrawn, IsDrawn}
+use Rattle.relmove_steps.proofs.NumbersLemmas.{numeral_injective}
 
 -- ---- names that differ, in another order
 
@@ -39,7 +39,7 @@ AreFreeNames-IsPermutation paths names others moved free =
     IsDistinct-from_apart bytes_eq names (λ i j d l within. bytes_eq-false _ _ (free.different i j d l within)) in
     let distinct_2 = IsDistinct-IsPermutation bytes_eq bytes_eq-flips names others moved distinct in
     record {
-      numbered = All-permutation (λ name. (n : ℕ) × (n < 2 ^ 64) × (name ≡ numbered_name n)) names others moved free.numbered;
+      numbered = All-permutation (λ name. (n : ℕ) × (name ≡ numbered_name n)) names others moved free.numbered;
       different = λ i j d l within same.
           true≢false (sym ((bytes_eq-Decides _ _).1 same) ∙ apart_from_distinct bytes_eq others i j d distinct_2 l
           within);
@@ -50,50 +50,42 @@ AreFreeNames-IsPermutation paths names others moved free =
 
 -- the same names, perhaps after some more were drawn
 pub AreDrawn-later : (index : PlaceIndex) (before after : FreeNames) (names : List (List ℕ))
-    → after.entries ≡ before.entries → before.next ≤ after.next → AreDrawn index before names
+    → after.entries ≡ before.entries → before.last ≤ after.last → AreDrawn index before names
     → AreDrawn index after names
-AreDrawn-later index before after names entries next drawn = record {
+AreDrawn-later index before after names entries later drawn = record {
   entries = ap (λ entries. entries.now) entries ∙ drawn.entries;
-  numbered = All-weaker (IsNumbered before.next) (IsNumbered after.next)
+  numbered = All-weaker (IsNumbered before.last) (IsNumbered after.last)
       (λ name is.
-      let below = is.below in
-      record {
-        number = is.number;
-        below = omega
-            (arith, below, next);
-        fits = is.fits;
-        name_is = is.name_is;
-      }) names drawn.numbered;
+      let within = is.within in
+      record { number = is.number; within = omega (arith, within, later); name_is = is.name_is }) names drawn.numbered;
   fresh = drawn.fresh;
 }
 
 -- a name with another number is another one
-pub numbered_name-other : (one other : ℕ) → one < 2 ^ 64 → other < 2 ^ 64 → one < other
-    → numbered_name one ≢ numbered_name other
-numbered_name-other one other fits fits_2 less same =
-    let is = decimal_injective one other fits fits_2 (append_cancel_left (codes ".relmove-") (decimal one)
-    (decimal other) same) in
+pub numbered_name-other : (one other : ℕ) → one < other → numbered_name one ≢ numbered_name other
+numbered_name-other one other less same =
+    let is = numeral_injective one other (append_cancel_left (codes ".relmove-") (numeral one) (numeral other) same) in
     absurd (omega (arith, less, is))
 
 pub AreDrawn-next : (index : PlaceIndex) (before after : FreeNames) (names : List (List ℕ)) (name : List ℕ)
     → IsDrawn before after name → AreDrawn index before names → AreDrawn index after (names ++ name ∷ [])
 AreDrawn-next index before after names name next drawn =
     let late = next.late in
-    let next_is = next.next in
+    let last_is = next.last in
     let numbered =
-    (AreDrawn-later index before after names next.entries (omega (arith, late, next_is)) drawn).numbered in
+    (AreDrawn-later index before after names next.entries (omega (arith, late, last_is)) drawn).numbered in
     record {
       entries = ap (λ entries. entries.now) next.entries ∙ drawn.entries;
-      numbered = All-push (IsNumbered after.next) names name numbered
-          (record { number = next.number; below = omega (arith, next_is); fits = next.fits; name_is = next.name_is });
+      numbered = All-push (IsNumbered after.last) names name numbered
+          (record { number = next.number; within = omega (arith, last_is); name_is = next.name_is });
       fresh = λ paths has. record {
-        numbered = All-push (λ other. (n : ℕ) × (n < 2 ^ 64) × (other ≡ numbered_name n)) names name (drawn.fresh paths has).numbered
-            (next.number, next.fits, next.name_is);
+        numbered = All-push (λ other. (n : ℕ) × (other ≡ numbered_name n)) names name (drawn.fresh paths has).numbered
+            (next.number, next.name_is);
         different = all_pairs_push (λ one other. one ≢ other) names name (drawn.fresh paths has).different
             (λ k d l same.
             let is = drawn.numbered k d l in
-            let below = is.below in
-            numbered_name-other is.number next.number is.fits next.fits (omega (arith, below, late))
+            let within = is.within in
+            numbered_name-other is.number next.number (omega (arith, within, late))
             (sym is.name_is ∙ same ∙ next.name_is));
         unused = All-push (λ other. IsNoneAt paths (components other)) names name (drawn.fresh paths has).unused
             (next.unused paths (rw drawn.entries has));

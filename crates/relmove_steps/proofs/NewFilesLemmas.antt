@@ -1,9 +1,8 @@
 -- New files: each one's name has a number of its own, and each is next to its page.
-use Rattle.std.proofs.Common.{false, ◌≡◌, ◌≢◌, ℕ, ◌<◌, ◌≤◌, ◌+◌, ◌%◌, ◌^◌, List, [], ◌∷◌, ◌++◌, Some, inl, inr, All, AllPairs, IsPermutation, codes, length, map, take, drop, get_or, refl, sym, ap, subst, ◌∙◌, append_assoc, append-nil, take-append-drop, arith}
-use Rattle.std.specs.Prelude.{decimal}
+use Rattle.std.proofs.Common.{false, ◌≡◌, ◌≢◌, ℕ, zero, suc, ◌<◌, ◌≤◌, ◌+◌, List, [], ◌∷◌, ◌++◌, Some, inl, inr, All, AllPairs, IsPermutation, codes, length, map, take, drop, get_or, refl, sym, ap, subst, ◌∙◌, append_assoc, append-nil, take-append-drop, arith}
+use Rattle.std.specs.Int.Digits.{digits_of}
 use Rattle.std.specs.List.{AllZip, filter}
 use Rattle.std.proofs.lemmas.Bool.{cases_Bool, eqb-true}
-use Rattle.std.proofs.lemmas.Fmt.{decimal_by_steps}
 use Rattle.std.proofs.lemmas.List.Elements.{All-append, All-cons, All-from_recursion, All-nil, All-push, All-take, All-weaker, recursion_from_All}
 use Rattle.std.proofs.lemmas.List.Quantifiers.{all_pairs_push}
 use Rattle.std.proofs.lemmas.List.Sorted.{All-permutation, IsPermutation-map}
@@ -23,32 +22,35 @@ use Rattle.relative_path_places.specs.PlaceIndex.{Indexes, IsNoneAt, path_at}
 use Rattle.relative_path_places.specs.declared.place_index.PlaceIndex.{PlaceIndex}
 use Rattle.relmove_checks.proofs.ForCallers.{components-nil}
 use Rattle.relmove_steps.specs.declared.staging.FreeNames.{FreeNames}
+use Rattle.relmove_steps.specs.Numbers.{numeral}
 use Rattle.relmove_steps.specs.StagingNames.{numbered_name, IsNumbered, AreDrawn, AreFreeNames, IsDrawn, IsDrawnIn}
-use Rattle.relmove_steps.specs.NewFiles.{IsOneOf, IsNextTo, HaveOwnFiles, EndsBelow, AreFilesDrawn}
+use Rattle.relmove_steps.specs.NewFiles.{IsOneOf, IsNextTo, HaveOwnFiles, EndsUpTo, AreFilesDrawn}
 use Rattle.relmove_steps.specs.Actions.{ActionTexts, WritesPage, WritesPages, with_text, names_left, pages_written}
 use Rattle.relmove_steps.proofs.NamesLemmas.{bytes_eq-false, numbered_name-other}
 
 -- ---- a numbered name is one component
 
-is_slash-digit : (d : ℕ) → d < 10 → is_slash (48 + d) ≡ false
-is_slash-digit d small = elim (cases_Bool (is_slash (48 + d))) [
+is_slash-digit : (d : ℕ) → is_slash (48 + d) ≡ false
+is_slash-digit d = elim (cases_Bool (is_slash (48 + d))) [
   | inl is ↦ let same = eqb-true (48 + d) 47 is in absurd (omega (arith, same))
   | inr differs ↦ differs
 ]
 
-no_slash-decimal : (n : ℕ) → n < 2 ^ 64 → All (λ b. is_slash b ≡ false) (decimal n)
-no_slash-decimal n fits =
-    decimal_by_steps (λ m digits. All (λ b. is_slash b ≡ false) digits)
-    (λ m small. All-cons (λ b. is_slash b ≡ false) (48 + m) [] (is_slash-digit m small) (All-nil (λ b. is_slash b ≡ false)))
-    (λ m digits large none. All-push (λ b. is_slash b ≡ false) digits (48 + m % 10) none
-    (is_slash-digit (m % 10) (omega arith))) n fits
+no_slash-digits : (digits : List ℕ) → All (λ b. is_slash b ≡ false) (map (λ d. 48 + d) digits)
+no_slash-digits [] = All-nil (λ b. is_slash b ≡ false)
+no_slash-digits (d ∷ digits) =
+    All-cons (λ b. is_slash b ≡ false) (48 + d) (map (λ d. 48 + d) digits) (is_slash-digit d) (no_slash-digits digits)
 
-no_slash-numbered_name : (n : ℕ) → n < 2 ^ 64 → All (λ b. is_slash b ≡ false) (numbered_name n)
-no_slash-numbered_name n fits =
-    All-append (λ b. is_slash b ≡ false) (codes ".relmove-") (decimal n)
+no_slash-numeral : (n : ℕ) → All (λ b. is_slash b ≡ false) (numeral n)
+no_slash-numeral zero = All-cons (λ b. is_slash b ≡ false) 48 [] refl (All-nil (λ b. is_slash b ≡ false))
+no_slash-numeral (suc n) = no_slash-digits (digits_of 10 (suc n))
+
+no_slash-numbered_name : (n : ℕ) → All (λ b. is_slash b ≡ false) (numbered_name n)
+no_slash-numbered_name n =
+    All-append (λ b. is_slash b ≡ false) (codes ".relmove-") (numeral n)
     (All-from_recursion (λ b. is_slash b ≡ false) (codes ".relmove-")
     (refl, (refl, (refl, (refl, (refl, (refl, (refl, (refl, (refl, tt))))))))))
-    (no_slash-decimal n fits)
+    (no_slash-numeral n)
 
 -- a text of at least two bytes, the second one not a dot
 classed-name : (a b : ℕ) (bs : List ℕ) → b ≢ 46 → classed (a ∷ b ∷ bs) ≡ name (a ∷ b ∷ bs)
@@ -58,12 +60,12 @@ classed-name a b bs other =
     (λ same. let second : b ≡ 46 = cc in other second) in
     rw (not_here, not_above) refl
 
-pub components-numbered_name : (n : ℕ) → n < 2 ^ 64 → components (numbered_name n) ≡ name (numbered_name n) ∷ []
+pub components-numbered_name : (n : ℕ) → components (numbered_name n) ≡ name (numbered_name n) ∷ []
 unfolding relative_path_on_literals
-components-numbered_name n fits =
+components-numbered_name n =
     ap (λ pieces. map classed (filter is_not_empty pieces))
-    (slice_split_none is_slash (numbered_name n) (no_slash-numbered_name n fits))
-    ∙ ap (λ c. c ∷ []) (classed-name 46 114 (codes "elmove-" ++ decimal n) (λ same. absurd (omega (arith, same))))
+    (slice_split_none is_slash (numbered_name n) (no_slash-numbered_name n))
+    ∙ ap (λ c. c ∷ []) (classed-name 46 114 (codes "elmove-" ++ numeral n) (λ same. absurd (omega (arith, same))))
 
 -- new texts of the pages up to the next are written
 pub WritesPages-next : (paths : List (List Step)) (k : ℕ) (cs : List Step) (actions more : ActionTexts) → k < length paths
@@ -79,12 +81,12 @@ WritesPages-next paths k cs actions more within here (page, is, written) so_far 
 pub components-free : (paths : List (List Step)) (names : List (List ℕ)) → AreFreeNames paths names
     → All (λ staging. components staging ≡ name staging ∷ []) names
 components-free paths names free = λ k d l.
-    let (number, fits, is) = free.numbered k d l in
-    subst (λ staging. components staging ≡ name staging ∷ []) (sym is) (components-numbered_name number fits)
+    let (number, is) = free.numbered k d l in
+    subst (λ staging. components staging ≡ name staging ∷ []) (sym is) (components-numbered_name number)
 
 -- ---- the text that spells components
 
-spelled_from : (text : List ℕ) (cs : List Step) → text ≡ spell (components text) → SpellThemselves cs
+pub spelled_from : (text : List ℕ) (cs : List Step) → text ≡ spell (components text) → SpellThemselves cs
     → (all : List ℕ) × (components all ≡ components text ++ cs) × (all ≡ spell (components all))
 spelled_from text [] is proper = (text, sym (append-nil (components text)), is)
 spelled_from text (c ∷ cs) is proper =
@@ -105,47 +107,55 @@ components-normal cs text proper normal is =
     (subst (IsSame cs) (sym here_is) (IsSame-refl cs)) in
     ap components (sym same) ∙ here_is
 
-pub components-next_to : (page file : List ℕ) (number : ℕ) → number < 2 ^ 64 → IsNormalText page
+-- the components of a directory, and then a numbered name
+pub SpellThemselves-numbered : (cs : List Step) (number : ℕ) → All SpellsItself cs
+    → SpellThemselves (cs ++ name (numbered_name number) ∷ [])
+SpellThemselves-numbered cs number proper =
+    recursion_from_All SpellsItself (cs ++ name (numbered_name number) ∷ [])
+    (All-push SpellsItself cs (name (numbered_name number)) proper (components-numbered_name number))
+
+pub components-below : (cs : List Step) (file : List ℕ) (number : ℕ) → All SpellsItself cs → IsNormal cs
+    → IsNormalTextOf (cs ++ components (numbered_name number)) file
+    → components file ≡ cs ++ name (numbered_name number) ∷ []
+components-below cs file number proper normal is =
+    components-normal (cs ++ name (numbered_name number) ∷ []) file (SpellThemselves-numbered cs number proper)
+    (IsNormal-push_name cs (numbered_name number) normal)
+    (subst (λ more. IsNormalTextOf (cs ++ more) file) (components-numbered_name number) is)
+
+pub components-next_to : (page file : List ℕ) (number : ℕ) → IsNormalText page
     → IsNormalTextOf (directory (components page) ++ components (numbered_name number)) file
     → components file ≡ directory (components page) ++ name (numbered_name number) ∷ []
-components-next_to page file number fits normal is =
+components-next_to page file number normal is =
     let cs = components page in
     let k = kept_len cs in
-    let last = name (numbered_name number) in
-    let one = components-numbered_name number fits in
-    let proper = All-take SpellsItself k cs (All-from_recursion SpellsItself cs (SpellThemselves-components page)) in
-    let front = IsNormal-append_left (take k cs) (drop k cs)
-    (subst IsNormal (sym (take-append-drop k cs)) normal.normal) in
-    components-normal (take k cs ++ last ∷ []) file
-    (recursion_from_All SpellsItself (take k cs ++ last ∷ []) (All-push SpellsItself (take k cs) last proper one))
-    (IsNormal-push_name (take k cs) (numbered_name number) front)
-    (subst (λ more. IsNormalTextOf (take k cs ++ more) file) one is)
+    components-below (take k cs) file number
+    (All-take SpellsItself k cs (All-from_recursion SpellsItself cs (SpellThemselves-components page)))
+    (IsNormal-append_left (take k cs) (drop k cs) (subst IsNormal (sym (take-append-drop k cs)) normal.normal)) is
 
 -- ---- texts with another number are other texts
 
-pub EndsBelow-other : (one other : List ℕ) (next number : ℕ) → EndsBelow next one → next ≤ number → number < 2 ^ 64
+pub EndsUpTo-other : (one other : List ℕ) (last number : ℕ) → EndsUpTo last one → last < number
     → (above : List Step) → components other ≡ above ++ name (numbered_name number) ∷ [] → one ≢ other
-EndsBelow-other one other next number is late fits above ends same =
-    let below = is.below in
+EndsUpTo-other one other last number is late above ends same =
+    let within = is.within in
     let all : is.above ++ name (numbered_name is.number) ∷ [] ≡ above ++ name (numbered_name number) ∷ [] =
     sym is.ends ∙ ap components same ∙ ends in
-    let last : Some (numbered_name is.number) ≡ Some (numbered_name number) =
+    let names : Some (numbered_name is.number) ≡ Some (numbered_name number) =
     sym (last_name-name is.above (numbered_name is.number)) ∙ ap last_name all
     ∙ last_name-name above (numbered_name number) in
-    numbered_name-other is.number number is.fits fits (omega (arith, below, late)) (same_Some _ _ last)
+    numbered_name-other is.number number (omega (arith, within, late)) (same_Some _ _ names)
 
-EndsBelow-later : (before after : ℕ) (text : List ℕ) → before ≤ after → EndsBelow before text → EndsBelow after text
-EndsBelow-later before after text later is =
-    let below = is.below in
-    record { number = is.number; below = omega (arith, below, later); fits = is.fits; above = is.above; ends = is.ends }
+EndsUpTo-later : (before after : ℕ) (text : List ℕ) → before ≤ after → EndsUpTo before text → EndsUpTo after text
+EndsUpTo-later before after text later is =
+    let within = is.within in
+    record { number = is.number; within = omega (arith, within, later); above = is.above; ends = is.ends }
 
-EndsBelow-IsNumbered : (next : ℕ) (text : List ℕ) → IsNumbered next text → EndsBelow next text
-EndsBelow-IsNumbered next text is = record {
+EndsUpTo-IsNumbered : (last : ℕ) (text : List ℕ) → IsNumbered last text → EndsUpTo last text
+EndsUpTo-IsNumbered last text is = record {
   number = is.number;
-  below = is.below;
-  fits = is.fits;
+  within = is.within;
   above = [];
-  ends = ap components is.name_is ∙ components-numbered_name is.number is.fits;
+  ends = ap components is.name_is ∙ components-numbered_name is.number;
 }
 
 -- ---- drawing new files
@@ -153,7 +163,7 @@ EndsBelow-IsNumbered next text is = record {
 pub AreFilesDrawn-none : (index : PlaceIndex) (pages : List (List Step)) (free : FreeNames) (actions : ActionTexts)
     → actions.texts ≡ [] → AreFilesDrawn index pages free actions
 AreFilesDrawn-none index pages free actions none = record {
-  numbered = none_of (λ new. EndsBelow free.next new.1);
+  numbered = none_of (λ new. EndsUpTo free.last new.1);
   own = λ entries has. record {
     of_pages = none_of (λ new. IsOneOf pages new.0);
     next_to = none_of (λ new. IsNextTo new.0 new.1);
@@ -175,17 +185,16 @@ pub AreFilesDrawn-file : (index : PlaceIndex) (pages : List (List Step)) (before
 AreFilesDrawn-file index pages before after actions page file text next normal one drawn files =
     let new : List ℕ × List ℕ × List ℕ = (page, file, text) in
     let late = next.late in
-    let next_is = next.next in
-    let ends = components-next_to page file next.number next.fits normal next.file_of in
+    let last_is = next.last in
+    let ends = components-next_to page file next.number normal next.file_of in
     record {
-      numbered = All-push (λ (new : List ℕ × List ℕ × List ℕ). EndsBelow after.next new.1) actions.texts new
-          (All-weaker (λ (new : List ℕ × List ℕ × List ℕ). EndsBelow before.next new.1)
-          (λ (new : List ℕ × List ℕ × List ℕ). EndsBelow after.next new.1)
-          (λ new. EndsBelow-later before.next after.next new.1 (omega (arith, late, next_is))) actions.texts files.numbered)
+      numbered = All-push (λ (new : List ℕ × List ℕ × List ℕ). EndsUpTo after.last new.1) actions.texts new
+          (All-weaker (λ (new : List ℕ × List ℕ × List ℕ). EndsUpTo before.last new.1)
+          (λ (new : List ℕ × List ℕ × List ℕ). EndsUpTo after.last new.1)
+          (λ new. EndsUpTo-later before.last after.last new.1 (omega (arith, late, last_is))) actions.texts files.numbered)
           (record {
             number = next.number;
-            below = omega (arith, next_is);
-            fits = next.fits;
+            within = omega (arith, last_is);
             above = directory (components page);
             ends = ends;
           });
@@ -201,13 +210,13 @@ AreFilesDrawn-file index pages before after actions page file text next normal o
                 (next.unused entries (subst (Indexes entries) (sym drawn.entries) has));
             different = all_pairs_push (λ (one other : List ℕ × List ℕ × List ℕ). one.1 ≢ other.1) actions.texts new
                 so_far.different
-                (λ k d l. EndsBelow-other (get_or actions.texts k d).1 file before.next next.number (files.numbered k d l)
-                next.late next.fits (directory (components page)) ends);
+                (λ k d l. EndsUpTo-other (get_or actions.texts k d).1 file before.last next.number (files.numbered k d l)
+                next.late (directory (components page)) ends);
             no_name = All-push (λ (new : List ℕ × List ℕ × List ℕ). All (λ staging. new.1 ≢ staging) (names_left actions))
                 actions.texts new so_far.no_name
-                (All-weaker (IsNumbered before.next) (λ staging. file ≢ staging)
-                (λ staging is same. EndsBelow-other staging file before.next next.number
-                (EndsBelow-IsNumbered before.next staging is) next.late next.fits (directory (components page)) ends
+                (All-weaker (IsNumbered before.last) (λ staging. file ≢ staging)
+                (λ staging is same. EndsUpTo-other staging file before.last next.number
+                (EndsUpTo-IsNumbered before.last staging is) next.late (directory (components page)) ends
                 (sym same)) (names_left actions) drawn.numbered);
           };
     }
@@ -219,14 +228,14 @@ pub AreFilesDrawn-name : (index : PlaceIndex) (pages : List (List Step)) (before
     → AreFilesDrawn index pages after more
 AreFilesDrawn-name index pages before after actions more staging next texts left files =
     let late = next.late in
-    let next_is = next.next in
+    let last_is = next.last in
     let ends : components staging ≡ [] ++ name (numbered_name next.number) ∷ [] =
-    ap components next.name_is ∙ components-numbered_name next.number next.fits in
+    ap components next.name_is ∙ components-numbered_name next.number in
     record {
-      numbered = same_texts (λ new. EndsBelow after.next new.1)
-          (All-weaker (λ (new : List ℕ × List ℕ × List ℕ). EndsBelow before.next new.1)
-          (λ (new : List ℕ × List ℕ × List ℕ). EndsBelow after.next new.1)
-          (λ new. EndsBelow-later before.next after.next new.1 (omega (arith, late, next_is))) actions.texts files.numbered);
+      numbered = same_texts (λ new. EndsUpTo after.last new.1)
+          (All-weaker (λ (new : List ℕ × List ℕ × List ℕ). EndsUpTo before.last new.1)
+          (λ (new : List ℕ × List ℕ × List ℕ). EndsUpTo after.last new.1)
+          (λ new. EndsUpTo-later before.last after.last new.1 (omega (arith, late, last_is))) actions.texts files.numbered);
       own = λ entries has.
           let so_far = files.own entries has in
           record {
@@ -239,8 +248,8 @@ AreFilesDrawn-name index pages before after actions more staging next texts left
                 (λ k d l. subst (All (λ staging. (get_or actions.texts k d).1 ≢ staging)) (sym left)
                 (All-push (λ staging. (get_or actions.texts k d).1 ≢ staging) (names_left actions) staging
                 (so_far.no_name k d l)
-                (EndsBelow-other (get_or actions.texts k d).1 staging before.next next.number (files.numbered k d l) next.late
-                next.fits [] ends)));
+                (EndsUpTo-other (get_or actions.texts k d).1 staging before.last next.number (files.numbered k d l) next.late
+                [] ends)));
           };
     }
   where

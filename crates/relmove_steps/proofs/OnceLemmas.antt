@@ -16,10 +16,10 @@ use Rattle.relative_path_moves.specs.Moves.{Move, move_at, AreApart}
 use Rattle.relative_path_places.specs.PlaceIndex.{IsNoneAt, path_at}
 use Rattle.relmove_checks.specs.Trees.{AreDistinct}
 use Rattle.relmove_steps.specs.StagingNames.{numbered_name}
-use Rattle.relmove_steps.specs.NewFiles.{LeaveOnce, EndsBelow, StaysThere, LeavesToo, LeaveFromEntries}
+use Rattle.relmove_steps.specs.NewFiles.{LeaveOnce, EndsUpTo, StaysThere, LeavesToo, LeaveFromEntries}
 use Rattle.relmove_steps.specs.Actions.{ActionTexts, with_carried, with_removed, LeavesFrom, of_move, of_page, of_text, OnlyTheseLeave, old_paths}
 use Rattle.relmove_steps.proofs.NamesLemmas.{bytes_eq-flips}
-use Rattle.relmove_steps.proofs.NewFilesLemmas.{EndsBelow-other}
+use Rattle.relmove_steps.proofs.NewFilesLemmas.{EndsUpTo-other}
 
 -- ---- nothing leaves yet
 
@@ -190,13 +190,13 @@ module _ (entries : List (List Step)) (file : List ℕ) (unused : IsNoneAt entri
       entry (IsNoneAt-same entries cs (components file) (subst (λ text. IsSame cs (components text)) same is.same) unused)
 
   -- so nothing leaves yet from a new file
-  pub file-leaves : (paths : List (List Step)) (moves : List Move) (before actions more : ActionTexts) (k next number : ℕ)
+  pub file-leaves : (paths : List (List Step)) (moves : List Move) (before actions more : ActionTexts) (k last number : ℕ)
       (page : List ℕ) (above : List Step) → k < length paths → LeaveFromEntries entries moves paths
-      → All (λ new. EndsBelow next new.1) before.texts → next ≤ number → number < 2 ^ 64
+      → All (λ new. EndsUpTo last new.1) before.texts → last < number
       → components file ≡ above ++ name (numbered_name number) ∷ []
       → OnlyTheseLeave moves (take k paths) before → actions.staged ≡ before.staged
       → IsNormalTextOf (path_at paths k) page → LeavesToo page actions more → All (λ step. step.0 ≢ file) more.staged
-  file-leaves paths moves before actions more k next number page above within leave numbered late fits ends only same page_is =
+  file-leaves paths moves before actions more k last number page above within leave numbered late ends only same page_is =
       All-weaker (λ (step : List ℕ × List ℕ). Contains actions.staged step ⊎ (step.0 ≡ page))
       (λ (step : List ℕ × List ℕ). step.0 ≢ file) by more.staged
     where
@@ -209,9 +209,9 @@ module _ (entries : List (List Step)) (file : List ℕ) (unused : IsNoneAt entri
           file-other (path_at paths j) from (subst (λ path. IsNormalTextOf path from) here is)
           (leave.pages_there j (omega (arith, less, within)))
       left from (of_text other text has) =
-          EndsBelow-other from file next number
-          (All-contains (λ (new : List ℕ × List ℕ × List ℕ). EndsBelow next new.1) before.texts (other, from, text) numbered
-          has) late fits above ends
+          EndsUpTo-other from file last number
+          (All-contains (λ (new : List ℕ × List ℕ × List ℕ). EndsUpTo last new.1) before.texts (other, from, text) numbered
+          has) late above ends
 
       by : (step : List ℕ × List ℕ) → Contains actions.staged step ⊎ (step.0 ≡ page) → step.0 ≢ file
       by step (inl has) =

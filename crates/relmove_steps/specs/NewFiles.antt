@@ -1,5 +1,5 @@
 -- The new files to which a run writes new texts, and what leaves its path once.
-use Rattle.std.specs.Prelude.{◌≡◌, ◌≢◌, ◌⊎◌, ◌<◌, ℕ, ◌^◌, List, [], ◌∷◌, ◌++◌, All, AllPairs, Contains, length}
+use Rattle.std.specs.Prelude.{◌≡◌, ◌≢◌, ◌⊎◌, ◌<◌, ◌≤◌, ℕ, List, [], ◌∷◌, ◌++◌, All, AllPairs, Contains, length}
 use Rattle.relative_path.specs.Steps.{Step, name, components, spell}
 use Rattle.relative_path.specs.Normalizing.{IsNormalTextOf}
 use Rattle.relative_path_moves.specs.Moves.{Move, AreApart}
@@ -42,17 +42,16 @@ pub record DoNothingYet (actions : ActionTexts) : Type 0 where
   pub texts : actions.texts ≡ []
   pub staged : actions.staged ≡ []
 
--- the last component of the text is a name with a number below this one
-pub record EndsBelow (next : ℕ) (text : List ℕ) : Type 0 where
+-- the last component of the text is a name with a number up to this one
+pub record EndsUpTo (last : ℕ) (text : List ℕ) : Type 0 where
   pub number : ℕ
-  pub below : number < next
-  pub fits : number < 2 ^ 64
+  pub within : number ≤ last
   pub above : List Step
   pub ends : components text ≡ above ++ name (numbered_name number) ∷ []
 
 -- the new files were drawn from these free names, which are over this index; so they are the pages' own
 pub record AreFilesDrawn (index : PlaceIndex) (pages : List (List Step)) (free : FreeNames) (actions : ActionTexts) : Type 0 where
-  pub numbered : All (λ new. EndsBelow free.next new.1) actions.texts
+  pub numbered : All (λ new. EndsUpTo free.last new.1) actions.texts
   pub own : (entries : List (List Step)) → Indexes entries index → HaveOwnFiles entries pages actions
 
 -- nothing leaves yet from where the components lead

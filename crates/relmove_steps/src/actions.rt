@@ -95,7 +95,7 @@ pub fn actions_of(
         → MakesMissing now.entry.table.now paths (action_texts actions) (map string_bytes actions.made.items)) }
 {
     let moves = now.table.moves();
-    let mut names = FreeNames::new(now.index);
+    let mut names = FreeNames::new(alloc, now.index);
     let staging = staging_names(alloc, &mut names, moves.len())?;
     let renames = renames_of(alloc, &mut names, pages, moves, &staging, now)?;
     Ok(Actions {

@@ -6,7 +6,7 @@
 //! ```text
 //! the actions       actions
 //! their parts       renames  directories  order
-//! what they need    changed  staging
+//! what they need    changed  staging  number
 //! ```
 #![tactic(auto)]
 
@@ -15,6 +15,7 @@ pub use self::actions::{After, actions_of};
 mod actions;
 mod changed;
 mod directories;
+mod number;
 mod order;
 mod renames;
 mod staging;

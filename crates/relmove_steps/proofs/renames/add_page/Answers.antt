@@ -69,9 +69,9 @@ returns-clause-free c = λ index drawn.
     let before = rename_texts c.args.renames.now in
     let actions = rename_texts c.add_old_text.new.renames in
     let late = c.in_ok-file.ensures.drawn.late in
-    let next = c.in_ok-file.ensures.drawn.next in
+    let last = c.in_ok-file.ensures.drawn.last in
     let written = AreDrawn-later index c.args.names.now c.in_directory.new.self
-    (names_left before) c.in_ok-file.ensures.drawn.entries (omega (arith, late, next)) drawn in
+    (names_left before) c.in_ok-file.ensures.drawn.entries (omega (arith, late, last)) drawn in
     let removed = c.in_ok-add_old_text.ensures.free index
     (subst (AreDrawn index c.in_directory.new.self) (sym (ap names_left c.in_ok-add_text.ensures)) written) in
     let left = ap names_left c.in_ok-add_carried.ensures
@@ -147,9 +147,9 @@ returns-clause-once c = λ index entries paths moves k has has_olds leave l here
     (StaysThere-page entries (take k paths) moves before cs none no_page entry own.unused only))
     (subst LeaveOnce (sym written_is) once) in
     let others = file-leaves entries file (drawn_in.unused entries (subst (Indexes entries) (sym drawn.entries) has)) paths
-    moves before written actions k c.args.names.now.next drawn_in.number old (directory (components old)) l leave
-    files.numbered drawn_in.late drawn_in.fits
-    (components-next_to old file drawn_in.number drawn_in.fits c.in_ok-old.ensures.normal.normal_text drawn_in.file_of) only
+    moves before written actions k c.args.names.now.last drawn_in.number old (directory (components old)) l leave
+    files.numbered drawn_in.late
+    (components-next_to old file drawn_in.number c.in_ok-old.ensures.normal.normal_text drawn_in.file_of) only
     (ap (λ (all : ActionTexts). all.staged) written_is) old_is c.in_ok-add_old_text.ensures.leaves in
     subst LeaveOnce (sym c.in_ok-add_carried.ensures)
     (LeaveOnce-with_file actions file c.deref-2.result.now (string_bytes c.in_ok-to.to) others removed)
