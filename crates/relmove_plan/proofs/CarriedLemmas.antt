@@ -15,7 +15,7 @@ use Rattle.relmove_checks.specs.declared.name_rule.NameRule.{NameRule}
 use Rattle.relmove_steps.specs.StagingNames.{AreFreeNames, numbered_name}
 use Rattle.relmove_trees.specs.FileTrees.{IsUnder, names_of}
 use Rattle.relmove_plan.proofs.RunWords.{carried, rename_places, renames_of}
-use Rattle.relmove_steps.specs.Actions.{Carries, LeavesFrom, ActionTexts, names_come, names_left}
+use Rattle.relmove_steps.specs.Actions.{Carries, LeavesFrom, ActionTexts, placed_names, staged_names}
 use Rattle.relmove_plan.proofs.KnownRunsLemmas.{IsKnownRun}
 use Rattle.relmove_steps.proofs.ForCallers.{AreFreeNames-IsPermutation}
 use Rattle.relmove_plan.proofs.PlacesLemmas.{IsBelow-joined, names_of-names}
@@ -47,7 +47,7 @@ module _ {entries : List Entry} {pages changed : List (List Step)} {moves : List
   where
     -- the paths from which something leaves, in order
     pub source : (i : ℕ) (step : List ℕ × List ℕ) → i < length actions.staged → get_or actions.staged i step ≡ step
-        → IsSource entries moves changed (names_left actions) step.0
+        → IsSource entries moves changed (staged_names actions) step.0
     source i step within is =
         IsSource-leaves entries pages run.whole moves changed run.files run.accepted.apart.come.leave.olds actions run.own step.0
         (subst (λ (step : List ℕ × List ℕ). LeavesFrom moves changed actions.texts step.0) is (run.only i step within))
@@ -78,8 +78,8 @@ module _ {entries : List Entry} {pages changed : List (List Step)} {moves : List
       where
         by : (i j : ℕ) (step other : List ℕ × List ℕ) → i < j → i < length actions.staged → j < length actions.staged
             → get_or actions.staged i step ≡ step → get_or actions.staged j other ≡ other
-            → (one : IsSource entries moves changed (names_left actions) step.0)
-            (two : IsSource entries moves changed (names_left actions) other.0)
+            → (one : IsSource entries moves changed (staged_names actions) step.0)
+            (two : IsSource entries moves changed (staged_names actions) other.0)
             → (below : List (List ℕ)) → two.place ≡ one.place ++ below → ⊥
         by i j step other less v w is is_2 one two [] split =
             run.once i j step less w
@@ -102,7 +102,7 @@ module _ {entries : List Entry} {pages changed : List (List Step)} {moves : List
     -- the name to which a rename leads, by its number
     pub left_at : (i : ℕ) (step : List ℕ × List ℕ) (d : List ℕ) → i < length actions.staged
         → get_or actions.staged i step ≡ step
-        → get_or (names_left actions) i d ≡ step.1
+        → get_or (staged_names actions) i d ≡ step.1
     left_at i step d within is =
         get_or-map (λ (step : List ℕ × List ℕ). step.1) actions.staged i step d within
         ∙ ap (λ (step : List ℕ × List ℕ). step.1) is
@@ -129,7 +129,7 @@ module _ {entries : List Entry} {pages changed : List (List Step)} {moves : List
 
     -- the name is one of those to which something leaves
     pub has_name : (i : ℕ) (step : List ℕ × List ℕ) → i < length actions.staged → get_or actions.staged i step ≡ step
-        → Contains (names_left actions) step.1
+        → Contains (staged_names actions) step.1
     has_name i step within is = (i, rw length-map within, left_at i step step.1 within is)
 
     -- nothing leaves from a staging name or from below it
@@ -151,24 +151,24 @@ module _ {entries : List Entry} {pages changed : List (List Step)} {moves : List
     -- ---- the names from which something comes
 
     abbrev pub come : List (List ℕ)
-    come = names_come actions ++ actions.removed
+    come = placed_names actions ++ actions.removed
 
     pub free_come : AreFreeNames (entry_paths entries) come
-    free_come = AreFreeNames-IsPermutation (entry_paths entries) (names_left actions) come run.nothing_lost run.names
+    free_come = AreFreeNames-IsPermutation (entry_paths entries) (staged_names actions) come run.nothing_lost run.names
 
     pub single_come : All (λ staging. components staging ≡ name staging ∷ []) come
-    single_come = All-permutation (λ staging. components staging ≡ name staging ∷ []) (names_left actions) come run.nothing_lost
+    single_come = All-permutation (λ staging. components staging ≡ name staging ∷ []) (staged_names actions) come run.nothing_lost
         run.single
 
     pub long_come : length come ≡ length actions.placed + length actions.removed
-    long_come = length-append (names_come actions) actions.removed ∙ ap (λ n. n + length actions.removed)
+    long_come = length-append (placed_names actions) actions.removed ∙ ap (λ n. n + length actions.removed)
         (length-map actions.placed (λ (step : List ℕ × List ℕ). step.0))
 
     -- the name from which something comes
     pub come_at : (k : ℕ) (step : List ℕ × List ℕ) (d : List ℕ) → k < length actions.placed
         → get_or actions.placed k step ≡ step → get_or come k d ≡ step.0
     come_at k step d within is =
-        get_or_append_left (names_come actions) actions.removed d k (rw length-map within)
+        get_or_append_left (placed_names actions) actions.removed d k (rw length-map within)
         ∙ get_or-map (λ (step : List ℕ × List ℕ). step.0) actions.placed k step d within
         ∙ ap (λ (step : List ℕ × List ℕ). step.0) is
 

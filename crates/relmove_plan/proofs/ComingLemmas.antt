@@ -13,7 +13,7 @@ use Rattle.relative_path_moves.specs.TreeMoves.{AtTreePath, IsTreePath}
 use Rattle.relmove_checks.specs.declared.entry.Entry.{Entry}
 use Rattle.relmove_checks.specs.declared.name_rule.NameRule.{NameRule}
 use Rattle.relmove_trees.specs.FileTrees.{names_of}
-use Rattle.relmove_steps.specs.Actions.{ActionTexts, Carries, LeavesFrom, of_move, of_page, of_text, names_come}
+use Rattle.relmove_steps.specs.Actions.{ActionTexts, Carries, LeavesFrom, of_move, of_page, of_text, placed_names}
 use Rattle.relmove_plan.specs.WholeTrees.{IsAt}
 use Rattle.relmove_plan.proofs.CarriedLemmas.{HasNoName}
 use Rattle.relmove_plan.proofs.CarriedLemmas as carrying
@@ -65,13 +65,13 @@ module _ {entries : List Entry} {pages changed : List (List Step)} {moves : List
     -- what is removed doesn't come
     pub come_kept : (staging to : List ℕ) → Contains actions.placed (staging, to) → ¬ Contains actions.removed staging
     come_kept staging to (k, within, is) (r, within_2, is_2) =
-        let count : length (names_come actions) ≡ length actions.placed =
+        let count : length (placed_names actions) ≡ length actions.placed =
         length-map actions.placed (λ (step : List ℕ × List ℕ). step.0) in
-        let long = length-append (names_come actions) actions.removed in
-        (carrying.free_come run).different k (length (names_come actions) + r) staging (omega (arith, within, count))
+        let long = length-append (placed_names actions) actions.removed in
+        (carrying.free_come run).different k (length (placed_names actions) + r) staging (omega (arith, within, count))
         (omega (arith, within_2, long))
         (carrying.come_at run k (staging, to) staging within is ∙ sym is_2
-        ∙ sym (get_or-append-add (names_come actions) actions.removed r staging))
+        ∙ sym (get_or-append-add (placed_names actions) actions.removed r staging))
 
     -- a thing leaves a path to one name
     pub left_one : (from one other : List ℕ) → Contains actions.staged (from, one) → Contains actions.staged (from, other)

@@ -27,11 +27,11 @@ use Rattle.relmove_plan.proofs.SourcesLemmas.{IsThere-place, first_of}
 use Rattle.relmove_plan.proofs.TreeRemovesLemmas.{AreDirectories, Contains-among, DeepestFirst, IsAmong}
 use Rattle.relmove_plan.proofs.WholeTreesLemmas.{HasDirectoryAt-above, IsSame-one_place, map_none, some_append, some_of}
 use Rattle.relmove_trees.specs.FileTrees.{Directory, IsUnder, Place, Tree, names_of}
-use Rattle.relmove_plan.specs.MovedTrees.{AreTakenTo, IsAboveOld, IsLeft}
+use Rattle.relmove_plan.specs.MovedTrees.{AreTakenTo, IsAboveOld, IsLeftBehind}
 use Rattle.relmove_plan.proofs.RunWords.{CanBeMade, CanCome, MakesDirectories, NothingInTheWay}
 use Rattle.relmove_plan.specs.WholeTrees.{HasDirectoryAt, IsAt}
 use Rattle.relmove_steps.specs.Actions.{ActionTexts, BelowFirst}
-use Rattle.relmove_steps.specs.Directories.{AreAllLeft, IsLeftByMove, IsLinked}
+use Rattle.relmove_steps.specs.Directories.{AreAllLeftBehind, IsLeftBehindByMove, IsLinked}
 use Rattle.relmove_trees.proofs.FileTreesLemmas.{some_is}
 
 -- the text spells its names, and has one
@@ -97,7 +97,7 @@ module _ {entries : List Entry} {pages changed : List (List Step)} {moves : List
     end_some d some target (inr (left, same)) to there none =
         some (some_of (sym (walk-names [] d) ∙ sym (ap place_of same) ∙ there) ∙ none)
 
-    pub left_at : (text : List ℕ) → IsLeftByMove moves moves text → IsLeftAt entries moves text
+    pub left_at : (text : List ℕ) → IsLeftBehindByMove moves moves text → IsLeftAt entries moves text
     left_at text (k, inside, left) =
         let (b, q, leads, at) =
         IsThere-place entries pages run.whole (move_at moves k).old (run.accepted.apart.come.leave.olds k inside).there in
@@ -134,13 +134,13 @@ module _ {entries : List Entry} {pages changed : List (List Step)} {moves : List
 
     -- ---- the list has exactly the directories that are left
 
-    module _ (news : List MovedSitePage) (emptied : List (List ℕ)) (left : All (IsLeftByMove moves moves) emptied)
-        (all : AreAllLeft moves moves news emptied)
+    module _ (news : List MovedSitePage) (emptied : List (List ℕ)) (left : All (IsLeftBehindByMove moves moves) emptied)
+        (all : AreAllLeftBehind moves moves news emptied)
       where
-        pub among-left : (place : Place) → IsAmong (map names_of emptied) place → IsLeft moves news place
+        pub among-left : (place : Place) → IsAmong (map names_of emptied) place → IsLeftBehind moves news place
         among-left place among =
             let (text, (i, within, is), same) = IsAmong-map names_of emptied place among in
-            let one = left_at text (subst (IsLeftByMove moves moves) is (left i text within)) in
+            let one = left_at text (subst (IsLeftBehindByMove moves moves) is (left i text within)) in
             record {
               from = one.from;
               some = one.some;
@@ -171,7 +171,7 @@ module _ {entries : List Entry} {pages changed : List (List Step)} {moves : List
                   );
             }
 
-        pub left-among : (place : Place) → IsLeft moves news place → IsAmong (map names_of emptied) place
+        pub left-among : (place : Place) → IsLeftBehind moves news place → IsAmong (map names_of emptied) place
         left-among place it = by it.above
           where
             by : IsAboveOld moves it.from → IsAmong (map names_of emptied) place
@@ -221,7 +221,7 @@ module _ {entries : List Entry} {pages changed : List (List Step)} {moves : List
 
     -- the directories that moves leave come the deepest first
     pub deepest_first : (emptied : List (List ℕ)) → BelowFirst emptied → AllPairs (λ one other. one ≢ other) emptied
-        → All (IsLeftByMove moves moves) emptied → DeepestFirst (map names_of emptied)
+        → All (IsLeftBehindByMove moves moves) emptied → DeepestFirst (map names_of emptied)
     deepest_first emptied order differ left =
         deepest emptied order differ (λ k d within. (left_at (get_or emptied k d) (left k d within)).spelled)
 
@@ -229,13 +229,13 @@ module _ {entries : List Entry} {pages changed : List (List Step)} {moves : List
         (can_make : CanBeMade entries actions made) (can_come : CanCome entries actions made)
         (makes : MakesDirectories moves entries actions made)
         (start now : Tree) (of : IsTreeOf entries moves changed actions made start) (now_is : HasNewTexts changed actions start now)
-        (emptied : List (List ℕ)) (left : All (IsLeftByMove moves moves) emptied)
+        (emptied : List (List ℕ)) (left : All (IsLeftBehindByMove moves moves) emptied)
       where
         -- each of them is a directory after the moves
         pub left_there : AreDirectories (map names_of emptied) (trees.moved run made clear can_make can_come makes start now of now_is)
         left_there place among =
             let (text, (i, within, is), same) = IsAmong-map names_of emptied place among in
-            let one = left_at text (subst (IsLeftByMove moves moves) is (left i text within)) in
+            let one = left_at text (subst (IsLeftBehindByMove moves moves) is (left i text within)) in
             let here : now one.from ≡ Some Directory =
             now_is.others one.from
             (ends.directory-unchanged run (map name one.from) one.from (walk-names [] one.from) one.at)

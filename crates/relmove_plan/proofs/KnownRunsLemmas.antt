@@ -11,7 +11,7 @@ use Rattle.relmove_checks.specs.Plan.{AreAllowed}
 use Rattle.relmove_checks.specs.Trees.{entry_paths}
 use Rattle.relmove_steps.specs.StagingNames.{AreFreeNames}
 use Rattle.relmove_steps.specs.NewFiles.{HaveOwnFiles, LeaveOnce}
-use Rattle.relmove_steps.specs.Actions.{ActionTexts, AboveFirst, BelowFirst, Carries, DoesMove, LosesNothing, OnlyTheseLeave, RemovesAt, names_left}
+use Rattle.relmove_steps.specs.Actions.{ActionTexts, AboveFirst, BelowFirst, Carries, DoesMove, LosesNothing, OnlyTheseLeave, RemovesAt, staged_names}
 use Rattle.relmove_plan.specs.WholeTrees.{LeadsToFile, IsWhole}
 
 -- the new text of the page where the components lead is written to a file, and carried to where the moves take the page
@@ -36,8 +36,8 @@ pub record IsKnownRun (entries : List Entry) (pages changed : List (List Step)) 
   pub once : LeaveOnce actions
   pub nothing_lost : LosesNothing actions
   pub only : OnlyTheseLeave moves changed actions
-  pub names : AreFreeNames (entry_paths entries) (names_left actions)
-  pub single : All (λ staging. components staging ≡ name staging ∷ []) (names_left actions)
+  pub names : AreFreeNames (entry_paths entries) (staged_names actions)
+  pub single : All (λ staging. components staging ≡ name staging ∷ []) (staged_names actions)
   pub own : HaveOwnFiles (entry_paths entries) changed actions
   pub moved : EachMove (DoesMove changed actions) moves
   pub removed : All (RemovesAt actions) changed

@@ -19,7 +19,7 @@ use Rattle.relmove_checks.specs.Trees.{HasAt, is_file}
 use Rattle.relmove_steps.specs.Directories.{AreMade, IsMissingText, IsTextTakenTo, LeavesTo, LeaveToNames, moves_to_names}
 use Rattle.relmove_trees.specs.FileTrees.{names_of}
 use Rattle.relmove_plan.proofs.RunWords.{carried, IsMadeFor, DirectoriesArrive}
-use Rattle.relmove_steps.specs.Actions.{ActionTexts, names_left}
+use Rattle.relmove_steps.specs.Actions.{ActionTexts, staged_names}
 use Rattle.relmove_plan.proofs.CarriedLemmas.{HasNoName, coming, is_reserved_text}
 use Rattle.relmove_plan.proofs.CarriedLemmas as carrying
 use Rattle.relmove_plan.proofs.ArrivalsLemmas as arrivals
@@ -235,7 +235,7 @@ module _ {entries : List Entry} {pages changed : List (List Step)} {moves : List
           → components (get_or staging j []) ≡ name (get_or staging j []) ∷ []
       single_name j within =
           let (old, is, leaves) = leave.each j within in
-          let here : get_or (names_left actions) leaves.0 [] ≡ get_or staging j [] =
+          let here : get_or (staged_names actions) leaves.0 [] ≡ get_or staging j [] =
           get_or-map (λ (step : List ℕ × List ℕ). step.1) actions.staged leaves.0 (old, get_or staging j []) [] leaves.1
           ∙ ap (λ (step : List ℕ × List ℕ). step.1) leaves.2 in
           subst (λ staging. components staging ≡ name staging ∷ []) here

@@ -41,7 +41,7 @@ use Rattle.relmove_trees.specs.FileTrees.{Directory, File, Place, Tree, names_of
 use Rattle.relmove_plan.specs.MovedTrees.{AreTakenTo, IsAboveNew, IsMoved}
 use Rattle.relmove_plan.proofs.RunWords.{CanBeMade, CanCome, DirectoriesArrive, IsMadeFor, MakesDirectories, NothingInTheWay, carried, renames_of}
 use Rattle.relmove_plan.specs.WholeTrees.{IsAt}
-use Rattle.relmove_steps.specs.Actions.{ActionTexts, Carries, LeavesFrom, names_come, names_left, of_move, of_page, of_text}
+use Rattle.relmove_steps.specs.Actions.{ActionTexts, Carries, LeavesFrom, placed_names, staged_names, of_move, of_page, of_text}
 use Rattle.relmove_steps.specs.Directories.{IsMissing, IsMissingText}
 use Rattle.relmove_trees.proofs.FileTreesLemmas.{place_or, some_is, some_none, with_node-at, with_node-elsewhere}
 
@@ -139,12 +139,12 @@ module _ {entries : List Entry} {pages changed : List (List Step)} {moves : List
         × IsNormalTextOf (path_at changed c) from
     removed_page r gone =
         let (j, within, is) = gone in
-        let all : All (Contains (names_left actions)) (carrying.come run) =
-        All-permutation (Contains (names_left actions)) (names_left actions) (carrying.come run) run.nothing_lost
-        (λ i d l. (i, l, get_or_default (names_left actions) i (get_or (names_left actions) i d) d l)) in
-        let long = length-append (names_come actions) actions.removed in
-        at (subst (Contains (names_left actions)) (get_or-append-add (names_come actions) actions.removed j r ∙ is)
-        (all (length (names_come actions) + j) r (omega (arith, within, long))))
+        let all : All (Contains (staged_names actions)) (carrying.come run) =
+        All-permutation (Contains (staged_names actions)) (staged_names actions) (carrying.come run) run.nothing_lost
+        (λ i d l. (i, l, get_or_default (staged_names actions) i (get_or (staged_names actions) i d) d l)) in
+        let long = length-append (placed_names actions) actions.removed in
+        at (subst (Contains (staged_names actions)) (get_or-append-add (placed_names actions) actions.removed j r ∙ is)
+        (all (length (placed_names actions) + j) r (omega (arith, within, long))))
       where
         by : (from : List ℕ) → Contains actions.staged (from, r) → LeavesFrom moves changed actions.texts from
             → (from : List ℕ) × Contains actions.staged (from, r) × (c : ℕ) × (c < length changed)
@@ -167,7 +167,7 @@ module _ {entries : List Entry} {pages changed : List (List Step)} {moves : List
                   (from, left, k, within, IsNormalTextOf-same (IsSame-one_place place leads_2 leads) normal)
             ]
 
-        at : Contains (names_left actions) r
+        at : Contains (staged_names actions) r
             → (from : List ℕ) × Contains actions.staged (from, r) × (c : ℕ) × (c < length changed)
             × IsNormalTextOf (path_at changed c) from
         at (i, inside, here) =

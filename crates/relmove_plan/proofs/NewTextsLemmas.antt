@@ -20,7 +20,7 @@ use Rattle.relmove_trees.specs.FileTrees.{Directory, File, IsWholeTree, Node, Pl
 use Rattle.relmove_plan.specs.MovedTrees.{AreTakenTo}
 use Rattle.relmove_plan.proofs.RunWords.{carried, renames_of}
 use Rattle.relmove_plan.specs.WholeTrees.{HasDirectoryAt, IsAt}
-use Rattle.relmove_steps.specs.Actions.{ActionTexts, names_left, of_text}
+use Rattle.relmove_steps.specs.Actions.{ActionTexts, staged_names, of_text}
 use Rattle.relmove_trees.proofs.FileTreesLemmas.{place_or, some_is}
 
 -- a new text as a node
@@ -77,7 +77,7 @@ module _ {entries : List Entry} {pages changed : List (List Step)} {moves : List
     pub file_at : (new : List ℕ × List ℕ × List ℕ) → Contains actions.texts new → IsFileAt entries new
     file_at new has = by src.is_from
       where
-        src : IsSource entries moves changed (names_left actions) new.1
+        src : IsSource entries moves changed (staged_names actions) new.1
         src =
             IsSource-leaves entries pages run.whole moves changed run.files run.accepted.apart.come.leave.olds actions run.own new.1
             (of_text new.0 new.2 has)
@@ -101,7 +101,7 @@ module _ {entries : List Entry} {pages changed : List (List Step)} {moves : List
         held (x ∷ front) last is file =
             inr (HasDirectoryAt-above entries pages run.whole false (x ∷ front) last [] (λ none. absurd (let e = none in cc)) file)
 
-        by : IsFrom entries moves changed (names_left actions) src.place → IsFileAt entries new
+        by : IsFrom entries moves changed (staged_names actions) src.place → IsFileAt entries new
         by (IsFrom.from_move k within leads) =
             let (b, place, leads_2, at) =
             IsThere-place entries pages run.whole (move_at moves k).old (run.accepted.apart.come.leave.olds k within).there in

@@ -30,7 +30,7 @@ use Rattle.relmove_steps.specs.NewFiles.{HaveOwnFiles, LeaveOnce}
 use Rattle.relmove_steps.specs.Pages.{changed_paths, page_paths}
 use Rattle.relmove_steps.specs.Directories.{MakesMissing}
 use Rattle.relmove_plan.proofs.RunWords.{CanBeMade, CanCome, DirectoriesArrive, NothingInTheWay}
-use Rattle.relmove_steps.specs.Actions.{AboveFirst, BelowFirst, DoesMove, LosesNothing, OnlyTheseLeave, RemovesAt, ReplacesChanged, ReplacesPage, ReplacesPages, WritesPages, names_left, pages_written, rename_text, action_texts}
+use Rattle.relmove_steps.specs.Actions.{AboveFirst, BelowFirst, DoesMove, LosesNothing, OnlyTheseLeave, RemovesAt, ReplacesChanged, ReplacesPage, ReplacesPages, WritesPages, staged_names, pages_written, rename_text, action_texts}
 use Rattle.relmove_plan.specs.WholeTrees.{IsWhole, LeadsToFile}
 use Rattle.relmove_plan.proofs.FreeWaysLemmas.{NothingInTheWay-actions}
 use Rattle.relmove_plan.proofs.KnownRunsLemmas.{IsKnownRun, IsReplaced}
@@ -69,7 +69,7 @@ pub record IsPlanned (entries : List Entry) (pages : List SitePage) (news : List
   pub moved : EachMove (DoesMove (changed_paths pages news) (action_texts actions)) moves
   pub replaced : ReplacesPages pages news (action_texts actions)
   pub only : OnlyTheseLeave moves (changed_paths pages news) (action_texts actions)
-  pub names : AreFreeNames (entry_paths entries) (names_left (action_texts actions))
+  pub names : AreFreeNames (entry_paths entries) (staged_names (action_texts actions))
   pub files : HaveOwnFiles (entry_paths entries) (changed_paths pages news) (action_texts actions)
   pub removed : All (RemovesAt (action_texts actions)) (changed_paths pages news)
   pub texts : WritesPages (changed_paths pages news) (action_texts actions)
@@ -113,8 +113,8 @@ module _ {entries : List Entry} {pages : List SitePage} {news : List MovedSitePa
     below_first =
         subst BelowFirst (sym (map-map (λ (step : List ℕ × List ℕ). step.0) rename_text actions.staged.items)) planned.staged
 
-    single : All (λ staging. components staging ≡ name staging ∷ []) (names_left (action_texts actions))
-    single = components-free (entry_paths entries) (names_left (action_texts actions)) planned.names
+    single : All (λ staging. components staging ≡ name staging ∷ []) (staged_names (action_texts actions))
+    single = components-free (entry_paths entries) (staged_names (action_texts actions)) planned.names
 
     above_first : AboveFirst (map (λ step. step.1) (action_texts actions).placed)
     above_first =

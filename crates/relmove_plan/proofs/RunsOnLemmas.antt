@@ -14,12 +14,12 @@ use Rattle.relmove_actions.specs.declared.actions.Actions.{Actions}
 use Rattle.relmove_checks.specs.declared.entry.Entry.{Entry}
 use Rattle.relmove_checks.specs.declared.name_rule.NameRule.{NameRule}
 use Rattle.relmove_steps.specs.Actions.{BelowFirst, ReplacesChanged, ReplacesPage, action_texts}
-use Rattle.relmove_steps.specs.Directories.{AreAllLeft, IsLeftByMove, MakesMissing}
+use Rattle.relmove_steps.specs.Directories.{AreAllLeftBehind, IsLeftBehindByMove, MakesMissing}
 use Rattle.relmove_steps.specs.Pages.{changed_paths, page_paths}
 use Rattle.relmove_trees.specs.FileTrees.{File, Place, Tree, names_of}
 use Rattle.relmove_plan.specs.KnownTrees.{AgreesWith, HasTexts, IsAfterMoves, RunsOn, tree_actions}
 use Rattle.relmove_plan.proofs.RunWords.{MakesDirectories}
-use Rattle.relmove_plan.specs.MovedTrees.{IsLeft}
+use Rattle.relmove_plan.specs.MovedTrees.{IsLeftBehind}
 use Rattle.relmove_trees.specs.TreeActions.{LeadTo}
 use Rattle.relmove_plan.proofs.ComingLemmas.{one_by_key}
 use Rattle.relmove_plan.proofs.EmptiedLemmas.{among-left, deepest_first, left-among, left_there}
@@ -47,7 +47,7 @@ module _ {entries : List Entry} {pages : List SitePage} {news : List MovedSitePa
     (made emptied : List (List ℕ))
     (missing : MakesMissing moves (map components planned.accepted.apart.after) (action_texts actions) made)
     (order : BelowFirst emptied) (differ : AllPairs (λ one other. one ≢ other) emptied)
-    (left : All (IsLeftByMove moves moves) emptied) (all : AreAllLeft moves moves news emptied)
+    (left : All (IsLeftBehindByMove moves moves) emptied) (all : AreAllLeftBehind moves moves news emptied)
     (tree now : Tree) (agrees : AgreesWith entries pages moves (action_texts actions) tree)
     (texts : HasTexts pages news tree now)
   where
@@ -125,7 +125,7 @@ module _ {entries : List Entry} {pages : List SitePage} {news : List MovedSitePa
         (λ end (moved, is_moved, cleared). record {
           moved = moved;
           are_moved = is_moved;
-          cleared = IsCleared-same (IsAmong (map names_of emptied)) (IsLeft moves news) moved end
+          cleared = IsCleared-same (IsAmong (map names_of emptied)) (IsLeftBehind moves news) moved end
               (left-among run news emptied left all) (among-left run news emptied left all) cleared;
         })
         tree
@@ -137,7 +137,7 @@ pub RunsOn-plan : {entries : List Entry} {pages : List SitePage} {news : List Mo
     {finds : List ℕ → List Target → Type 0} {moves : List Move} {rule : NameRule} {actions : Actions}
     (planned : IsPlanned entries pages news finds moves rule actions) (made emptied : List (List ℕ))
     → MakesMissing moves (map components planned.accepted.apart.after) (action_texts actions) made
-    → BelowFirst emptied → AllPairs (λ one other. one ≢ other) emptied → All (IsLeftByMove moves moves) emptied
-    → AreAllLeft moves moves news emptied → RunsOn entries pages news moves (action_texts actions) made emptied
+    → BelowFirst emptied → AllPairs (λ one other. one ≢ other) emptied → All (IsLeftBehindByMove moves moves) emptied
+    → AreAllLeftBehind moves moves news emptied → RunsOn entries pages news moves (action_texts actions) made emptied
 RunsOn-plan planned made emptied missing order differ left all tree now agrees texts =
     runs planned made emptied missing order differ left all tree now agrees texts

@@ -16,7 +16,7 @@ use Rattle.relmove_checks.specs.Trees.{IsThere, IsOldFine, entry_paths, is_direc
 use Rattle.relmove_steps.specs.StagingNames.{numbered_name}
 use Rattle.relmove_steps.specs.NewFiles.{HaveOwnFiles, IsNextTo}
 use Rattle.relmove_trees.specs.FileTrees.{IsUnder, names_of}
-use Rattle.relmove_steps.specs.Actions.{ActionTexts, LeavesFrom, of_move, of_page, of_text, names_left}
+use Rattle.relmove_steps.specs.Actions.{ActionTexts, LeavesFrom, of_move, of_page, of_text, staged_names}
 use Rattle.relmove_plan.specs.WholeTrees.{IsAt, IsHeld, LeadsToFile, IsWhole}
 use Rattle.relmove_plan.proofs.PlacesLemmas.{joined-names, names_of-normal, names_of-names, spelled-place}
 use Rattle.relmove_plan.proofs.WholeTreesLemmas.{IsAt-some, IsNoneAt-under, IsSame-one_place, LeadsToFile-under, not_empty, path_at-entry, some_of}
@@ -83,8 +83,8 @@ module _ (entries : List Entry) (pages : List (List Step)) (whole : IsWhole entr
       file_of k within = files k [] within
 
       IsSource-normal : (cs : List Step) (from : List ℕ) (place : List (List ℕ)) → IsNormalTextOf cs from
-          → place_of cs ≡ Some place → place ≢ [] → IsFrom entries moves changed (names_left actions) place
-          → IsSource entries moves changed (names_left actions) from
+          → place_of cs ≡ Some place → place ≢ [] → IsFrom entries moves changed (staged_names actions) place
+          → IsSource entries moves changed (staged_names actions) from
       IsSource-normal cs from place is leads some is_from = record {
         place = place;
         some = some;
@@ -96,7 +96,7 @@ module _ (entries : List Entry) (pages : List (List Step)) (whole : IsWhole entr
 
       -- what leaves is known
       pub IsSource-leaves : (from : List ℕ) → LeavesFrom moves changed actions.texts from
-          → IsSource entries moves changed (names_left actions) from
+          → IsSource entries moves changed (staged_names actions) from
       IsSource-leaves from (of_move k within is) =
           let (b, place, leads, at) = IsThere-place (move_at moves k).old (olds k within).there in
           IsSource-normal (move_at moves k).old from place is leads (IsAt-some entries pages whole b place at)
@@ -113,8 +113,8 @@ module _ (entries : List Entry) (pages : List (List Step)) (whole : IsWhole entr
           new = get_or actions.texts j (old, from, text)
 
           by : (k : ℕ) × (k < length changed) × IsNormalTextOf (path_at changed k) new.0 → IsNextTo new.0 new.1
-              → IsNoneAt (entry_paths entries) (components new.1) → All (λ staging. new.1 ≢ staging) (names_left actions)
-              → IsSource entries moves changed (names_left actions) from
+              → IsNoneAt (entry_paths entries) (components new.1) → All (λ staging. new.1 ≢ staging) (staged_names actions)
+              → IsSource entries moves changed (staged_names actions) from
           by (k, within, is_page) next_to unused no_name =
               let top = file_of k within in
               elim (last_view top.place) [
@@ -134,7 +134,7 @@ module _ (entries : List Entry) (pages : List (List Step)) (whole : IsWhole entr
                     sym from_is ∙ joined-names new.1 place next_to.spelled file_is in
                     let none : IsNoneAt (entry_paths entries) (map name place) =
                     subst (IsNoneAt (entry_paths entries)) file_is unused in
-                    let no_name_2 : All (λ staging. place ≢ staging ∷ []) (names_left actions) =
+                    let no_name_2 : All (λ staging. place ≢ staging ∷ []) (staged_names actions) =
                     λ j d l same. no_name j d l (from_is ∙ joined ∙ ap (join_with_byte slash) same) in
                     record {
                       place = place;
@@ -147,7 +147,7 @@ module _ (entries : List Entry) (pages : List (List Step)) (whole : IsWhole entr
               ]
 
       -- what takes an entry along that isn't a page that changes is a move
-      pub IsFrom-under : (b : Bool) (place top below : List (List ℕ)) → IsFrom entries moves changed (names_left actions) top
+      pub IsFrom-under : (b : Bool) (place top below : List (List ℕ)) → IsFrom entries moves changed (staged_names actions) top
           → Any (IsAt b place) entries → IsNoneAt changed (map name place) → place ≡ top ++ below → top ≢ []
           → (k : ℕ) × TakesAlong moves place k below
       IsFrom-under b place top below (IsFrom.from_move k within leads) at other under some =
@@ -160,8 +160,8 @@ module _ (entries : List Entry) (pages : List (List Step)) (whole : IsWhole entr
           absurd (IsNoneAt-under entries pages whole (map name top) b place top none (walk-names [] top) some at (below, under))
 
       -- nothing leaves from below a name where no entry is, if the name isn't a new file's
-      pub IsFrom-apart : (staging : List ℕ) (below top : List (List ℕ)) → IsFrom entries moves changed (names_left actions) top
-          → top ≢ [] → IsNoneAt (entry_paths entries) (map name (staging ∷ [])) → Contains (names_left actions) staging
+      pub IsFrom-apart : (staging : List ℕ) (below top : List (List ℕ)) → IsFrom entries moves changed (staged_names actions) top
+          → top ≢ [] → IsNoneAt (entry_paths entries) (map name (staging ∷ [])) → Contains (staged_names actions) staging
           → ¬ IsUnder (staging ∷ below) top
       IsFrom-apart staging below top from some none (i, within, is) under = by top from some under
         where
@@ -175,7 +175,7 @@ module _ (entries : List Entry) (pages : List (List Step)) (whole : IsWhole entr
           begins [] some under = absurd (some refl)
           begins (n ∷ place) some under = (place, ap (λ first. first ∷ place) (sym (IsUnder-first staging n below place under)))
 
-          by : (top : List (List ℕ)) → IsFrom entries moves changed (names_left actions) top → top ≢ []
+          by : (top : List (List ℕ)) → IsFrom entries moves changed (staged_names actions) top → top ≢ []
               → IsUnder (staging ∷ below) top → ⊥
           by top (IsFrom.from_move k within leads) some under =
               let (b, place, leads_2, at) = IsThere-place (move_at moves k).old (olds k within).there in

@@ -44,7 +44,7 @@ use Rattle.relmove_plan.specs.KnownTrees.{IsBelowUnread, IsUnread, IsUnreadAt}
 use Rattle.relmove_plan.specs.MovedTrees.{AreTakenTo}
 use Rattle.relmove_plan.proofs.RunWords.{IsMadeFor, MakesDirectories, carried, rename_places, renames_of}
 use Rattle.relmove_plan.specs.WholeTrees.{HasDirectoryAt, IsAt, LeadsToFile}
-use Rattle.relmove_steps.specs.Actions.{ActionTexts, CarriesMove, LeavesFrom, names_left, of_move, of_page, of_text}
+use Rattle.relmove_steps.specs.Actions.{ActionTexts, CarriesMove, LeavesFrom, staged_names, of_move, of_page, of_text}
 use Rattle.relmove_steps.specs.Directories.{IsMissingText}
 use Rattle.relmove_trees.proofs.FileTreesLemmas.{place_or, some_is, some_none}
 
@@ -78,7 +78,7 @@ pub record ComesAlong (moves : List Move) (actions : ActionTexts) (top : Place) 
 
 module _ {entries : List Entry} {pages changed : List (List Step)} {moves : List Move} {rule : NameRule} {actions : ActionTexts}
     (run : IsKnownRun entries pages changed moves rule actions) (start : Tree) (whole_tree : IsWholeTree start)
-    (no_name : (r : List ℕ) → Contains (names_left actions) r → start (r ∷ []) ≡ None)
+    (no_name : (r : List ℕ) → Contains (staged_names actions) r → start (r ∷ []) ≡ None)
     (no_file : (new : List ℕ × List ℕ × List ℕ) → Contains actions.texts new → start (names_of new.1) ≡ None)
     (place : Place) (there : IsSome (start place)) (it : IsBelowUnread entries moves place)
   where
@@ -232,7 +232,7 @@ module _ {entries : List Entry} {pages changed : List (List Step)} {moves : List
               let before = leaves.left_before run m step within is in
               let (i, other, inside, other_is, name_is) = before in
               not_free (step.0 ∷ [])
-              (no_name step.0 (subst (Contains (names_left actions)) name_is (carrying.has_name run i other inside other_is))) under))
+              (no_name step.0 (subst (Contains (staged_names actions)) name_is (carrying.has_name run i other inside other_is))) under))
               ∙ end_is;
         }
           where
@@ -325,7 +325,7 @@ module _ {entries : List Entry} {pages changed : List (List Step)} {moves : List
     (run : IsKnownRun entries pages changed moves rule actions) (made : List (List ℕ))
     (makes : MakesDirectories moves entries actions made)
     (start : Tree) (whole_tree : IsWholeTree start)
-    (no_name : (r : List ℕ) → Contains (names_left actions) r → start (r ∷ []) ≡ None)
+    (no_name : (r : List ℕ) → Contains (staged_names actions) r → start (r ∷ []) ≡ None)
     (no_file : (new : List ℕ × List ℕ × List ℕ) → Contains actions.texts new → start (names_of new.1) ≡ None)
     (place : Place) (there : IsSome (start place)) (it : IsBelowUnread entries moves place)
   where

@@ -12,7 +12,7 @@ use Rattle.relmove_checks.specs.declared.entry.Entry.{Entry}
 use Rattle.relmove_checks.specs.declared.name_rule.NameRule.{NameRule}
 use Rattle.relmove_trees.specs.FileTrees.{IsUnder, names_of}
 use Rattle.relmove_plan.proofs.RunWords.{rename_places, carried, renames_of, IsThereAfter}
-use Rattle.relmove_steps.specs.Actions.{ActionTexts, LeavesFrom, of_move, of_page, of_text, names_come, names_left}
+use Rattle.relmove_steps.specs.Actions.{ActionTexts, LeavesFrom, of_move, of_page, of_text, placed_names, staged_names}
 use Rattle.relmove_plan.specs.WholeTrees.{IsAt}
 use Rattle.relmove_plan.proofs.CarriedLemmas.{HasNoName, coming, is_reserved_text, leaving}
 use Rattle.relmove_plan.proofs.CarriedLemmas as carrying
@@ -210,11 +210,11 @@ module _ {entries : List Entry} {pages changed : List (List Step)} {moves : List
         → (i : ℕ) × (other : List ℕ × List ℕ) × (i < length actions.staged) × (get_or actions.staged i other ≡ other)
         × (other.1 ≡ step.0)
     left_before k step within is =
-        let come = names_come actions ++ actions.removed in
-        let all : All (Contains (names_left actions)) come =
-        All-permutation (Contains (names_left actions)) (names_left actions) come run.nothing_lost
-        (λ i d l. (i, l, get_or_default (names_left actions) i (get_or (names_left actions) i d) d l)) in
-        let (i, inside, here) = subst (Contains (names_left actions))
+        let come = placed_names actions ++ actions.removed in
+        let all : All (Contains (staged_names actions)) come =
+        All-permutation (Contains (staged_names actions)) (staged_names actions) come run.nothing_lost
+        (λ i d l. (i, l, get_or_default (staged_names actions) i (get_or (staged_names actions) i d) d l)) in
+        let (i, inside, here) = subst (Contains (staged_names actions))
         (carrying.come_at run k step [] within is)
         (all k [] (carrying.inside run k within)) in
         let inside_2 : i < length actions.staged = rw length-map at inside in

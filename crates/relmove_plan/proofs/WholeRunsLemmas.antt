@@ -23,7 +23,7 @@ use Rattle.relmove_plan.specs.KnownTrees.{tree_actions}
 use Rattle.relmove_plan.specs.MovedTrees.{IsCleared, IsMoved}
 use Rattle.relmove_plan.proofs.RunWords.{CanBeMade, CanCome, MakesDirectories, NothingInTheWay, rename_places}
 use Rattle.relmove_trees.specs.TreeActions.{Action, Clear, LeadTo, Make, Remove, Rename, Write}
-use Rattle.relmove_steps.specs.Actions.{ActionTexts, names_come}
+use Rattle.relmove_steps.specs.Actions.{ActionTexts, placed_names}
 
 lead_writes : (news : List (List ℕ × List ℕ × List ℕ)) (P : Tree → Type 0) (tree : Tree) → CanAddAll (map text_at news) tree
     → P (after_adds (map text_at news) tree) → LeadTo (map (λ new. Write (names_of new.1) new.2) news) P tree
@@ -85,11 +85,11 @@ module _ {entries : List Entry} {pages changed : List (List Step)} {moves : List
         trees.removed_page run made clear can_make can_come makes start now of now_is r gone in
         trees.name_at run made clear can_make can_come makes start now of now_is from r left)
         (λ i j d less within same.
-        let long = length-append (names_come actions) actions.removed in
-        (carrying.free_come run).different (length (names_come actions) + i) (length (names_come actions) + j) d (omega (arith, less))
+        let long = length-append (placed_names actions) actions.removed in
+        (carrying.free_come run).different (length (placed_names actions) + i) (length (placed_names actions) + j) d (omega (arith, less))
         (omega (arith, within, long))
-        (get_or-append-add (names_come actions) actions.removed i d ∙ same
-        ∙ sym (get_or-append-add (names_come actions) actions.removed j d)))
+        (get_or-append-add (placed_names actions) actions.removed i d ∙ same
+        ∙ sym (get_or-append-add (placed_names actions) actions.removed j d)))
 
     abbrev pub moved : Tree
     moved = trees.moved run made clear can_make can_come makes start now of now_is

@@ -9,10 +9,10 @@ use Rattle.relative_path_moves.specs.Moves.{Move, move_at}
 use Rattle.relative_path_places.specs.PlaceIndex.{IsNoneAt}
 use Rattle.relmove_checks.specs.declared.entry.Entry.{Entry}
 use Rattle.relmove_checks.specs.Trees.{entry_paths, is_unread}
-use Rattle.relmove_steps.specs.Actions.{ActionTexts, names_left}
+use Rattle.relmove_steps.specs.Actions.{ActionTexts, staged_names}
 use Rattle.relmove_steps.specs.Pages.{changed_paths}
 use Rattle.relmove_trees.specs.FileTrees.{Directory, File, IsWholeTree, Place, Tree, names_of}
-use Rattle.relmove_plan.specs.MovedTrees.{IsCleared, IsLeft, IsMoved}
+use Rattle.relmove_plan.specs.MovedTrees.{IsCleared, IsLeftBehind, IsMoved}
 use Rattle.relmove_trees.specs.TreeActions.{Action, Clear, LeadTo, Make, Remove, Rename, Write}
 use Rattle.relmove_plan.specs.WholeTrees.{HasDirectoryAt, IsAt}
 
@@ -61,12 +61,12 @@ pub record AgreesWith (entries : List Entry) (pages : List SitePage) (moves : Li
       → tree place ≡ Some (File page.text.now)) pages
   pub only : (place : Place) → IsSome (tree place)
       → (place ≡ []) ⊎ (((b : Bool) × Any (IsAt b place) entries) ⊎ IsBelowUnread entries moves place)
-  pub staging : (staging : List ℕ) → Contains (names_left actions) staging → tree (staging ∷ []) ≡ None
+  pub staging : (staging : List ℕ) → Contains (staged_names actions) staging → tree (staging ∷ []) ≡ None
   pub new_files : (new : List ℕ × List ℕ × List ℕ) → Contains actions.texts new → tree (names_of new.1) ≡ None
 
 -- no entry is at the names that the actions make
 pub record MakesFreeNames (entries : List Entry) (actions : ActionTexts) : Type 0 where
-  pub staging : All (λ staging. IsNoneAt (entry_paths entries) (components staging)) (names_left actions)
+  pub staging : All (λ staging. IsNoneAt (entry_paths entries) (components staging)) (staged_names actions)
   pub new_files : All (λ new. IsNoneAt (entry_paths entries) (components new.1)) actions.texts
 
 -- the second tree is the first with the new texts of the pages that change
@@ -79,7 +79,7 @@ pub record HasTexts (pages : List SitePage) (news : List MovedSitePage) (tree no
 pub record IsAfterMoves (moves : List Move) (news : List MovedSitePage) (now end : Tree) : Type 0 where
   pub moved : Tree
   pub are_moved : IsMoved moves now moved
-  pub cleared : IsCleared (IsLeft moves news) moved end
+  pub cleared : IsCleared (IsLeftBehind moves news) moved end
 
 -- whoever does the actions on a tree that agrees can do each, and comes to the tree after the moves
 abbrev pub RunsOn : List Entry → List SitePage → List MovedSitePage → List Move → ActionTexts → List (List ℕ)

@@ -35,14 +35,14 @@ IsLinkedAt moves news place = Any (λ new. Any (λ edit. (file : List ℕ) × (e
     × AtTreePath moves (components file) (λ target. place_of target ≡ Some place)) new.edits.items) news
 
 -- at the place is, after the moves, a directory that was above an old path and isn't the root, and no link leads there
-pub record IsLeft (moves : List Move) (news : List MovedSitePage) (place : Place) : Type 0 where
+pub record IsLeftBehind (moves : List Move) (news : List MovedSitePage) (place : Place) : Type 0 where
   pub from : Place
   pub some : from ≢ []
   pub above : IsAboveOld moves from
   pub taken : AreTakenTo moves from place
   pub unlinked : ¬ IsLinkedAt moves news place
 
--- the place is left, and so is each place below it at which something is
+-- the place is left behind, and so is each place below it at which something is
 pub record IsEmptied (left : Place → Type 0) (tree : Tree) (place : Place) : Type 0 where
   pub itself : left place
   pub below : (n : List ℕ) (rest : Place) → IsSome (tree (place ++ n ∷ rest)) → left (place ++ n ∷ rest)

@@ -3,7 +3,7 @@ use Rattle.std.proofs.Common.{◌≡◌, ℕ, List, [], ◌∷◌, ◌++◌, map
 use Rattle.std.proofs.lemmas.List.{map_push}
 use Rattle.std.proofs.lemmas.List.Sorted.{IsPermutation-append, IsPermutation-append_left, IsPermutation-cons, IsPermutation-map, IsPermutation-middle, IsPermutation-refl, IsPermutation-sym, IsPermutation-to_front, IsPermutation-trans}
 use Rattle.std.specs.List.Sorted.{IsPermutation}
-use Rattle.relmove_steps.specs.Actions.{ActionTexts, with_carried, with_removed, names_left, names_come, LosesNothing}
+use Rattle.relmove_steps.specs.Actions.{ActionTexts, with_carried, with_removed, staged_names, placed_names, LosesNothing}
 
 -- what a text is of is pushed
 pub map_push-same : {X Y : Type 0} (f : X → Y) (before after : List X) (x : X) (y : Y) → after ≡ before ++ x ∷ []
@@ -29,21 +29,21 @@ module _ (left come removed : List (List ℕ)) (name : List ℕ) (kept : IsPermu
       (IsPermutation-append_left (name ∷ []) left (come ++ removed) kept)
 
 module _ (actions : ActionTexts) (from staging : List ℕ) where
-  pub names_left-push : map (λ (step : List ℕ × List ℕ). step.1) (actions.staged ++ (from, staging) ∷ [])
-      ≡ names_left actions ++ staging ∷ []
-  names_left-push = map_push (λ (step : List ℕ × List ℕ). step.1) actions.staged (from, staging)
+  pub staged_names-push : map (λ (step : List ℕ × List ℕ). step.1) (actions.staged ++ (from, staging) ∷ [])
+      ≡ staged_names actions ++ staging ∷ []
+  staged_names-push = map_push (λ (step : List ℕ × List ℕ). step.1) actions.staged (from, staging)
 
   -- one thing more leaves, and comes to a path
   pub LosesNothing-with_carried : (to : List ℕ) → LosesNothing actions → LosesNothing (with_carried actions from staging to)
   LosesNothing-with_carried to kept =
-      let names_come-push = map_push (λ (step : List ℕ × List ℕ). step.0) actions.placed (staging, to) in
-      rw (names_left-push, names_come-push)
-      (IsPermutation-come (names_left actions) (names_come actions) actions.removed staging kept)
+      let placed_names-push = map_push (λ (step : List ℕ × List ℕ). step.0) actions.placed (staging, to) in
+      rw (staged_names-push, placed_names-push)
+      (IsPermutation-come (staged_names actions) (placed_names actions) actions.removed staging kept)
 
   -- one thing more leaves, and is removed
   pub LosesNothing-with_removed : LosesNothing actions → LosesNothing (with_removed actions from staging)
   LosesNothing-with_removed kept =
-      rw names_left-push (IsPermutation-removed (names_left actions) (names_come actions) actions.removed staging kept)
+      rw staged_names-push (IsPermutation-removed (staged_names actions) (placed_names actions) actions.removed staging kept)
 
 -- the same in another order
 pub LosesNothing-reordered : (before after : ActionTexts) → IsPermutation before.staged after.staged

@@ -36,7 +36,7 @@ use Rattle.relative_path_moves.specs.TreeMoves.{AtTreePath}
 use Rattle.relmove_checks.specs.Moves.{move_of}
 use Rattle.relmove_checks.proofs.ForCallers.{length-written, move_at-written, same_front, some_long}
 use Rattle.relmove_steps.specs.StagingNames.{IsNumbered, numbered_name}
-use Rattle.relmove_steps.specs.Directories.{AreAllLeft, AreMissing, AreWithout, AreMissingTexts, HasDirectory, HasLeft, HaveTextOf, IsDirectoryAbove, IsLeftByMove, IsLinked, IsMissingText, IsTextTakenTo, LeavesTo, LeaveToNames, moves_to_names}
+use Rattle.relmove_steps.specs.Directories.{AreAllLeftBehind, AreMissing, AreWithout, AreMissingTexts, HasDirectory, HasLeftBehind, HaveTextOf, IsDirectoryAbove, IsLeftBehindByMove, IsLinked, IsMissingText, IsTextTakenTo, LeavesTo, LeaveToNames, moves_to_names}
 use Rattle.relmove_steps.specs.Actions.{AboveFirst, AreAmong, ActionTexts, with_carried, with_removed}
 use Rattle.relmove_steps.proofs.NewFilesLemmas.{components-numbered_name}
 use Rattle.relmove_steps.proofs.OrderLemmas.{map-reverse, nat_cmp-self}
@@ -210,10 +210,10 @@ Contains-reverse xs x (k, within, is) = (
 
 -- ---- the directories that moves leave
 
-pub IsLeftByMove-here : (table moves : List Move) (k : ℕ) (path cs : List Step) (normal now text : List ℕ)
+pub IsLeftBehindByMove-here : (table moves : List Move) (k : ℕ) (path cs : List Step) (normal now text : List ℕ)
     → k < length moves → (move_at moves k).old ≡ path → IsNormalTextOf path normal → HasDirectory (components normal) cs
-    → AtTreePath table cs (λ target. IsNormalTextOf target now) → text ≡ now → IsLeftByMove table moves text
-IsLeftByMove-here table moves k path cs normal now text l here is has there same = (
+    → AtTreePath table cs (λ target. IsNormalTextOf target now) → text ≡ now → IsLeftBehindByMove table moves text
+IsLeftBehindByMove-here table moves k path cs normal now text l here is has there same = (
   k,
   l,
   rw here (record {
@@ -381,26 +381,26 @@ AreWithout-empty P xs k before bound without = record {
 
 -- where the directory is after the moves is one of the texts
 abbrev pub IsLeftAt : List Move → List (List ℕ) → NormalView → Type 0
-IsLeftAt table texts directory = HasLeft table texts (λ text. ⊤) (view_components directory)
+IsLeftAt table texts directory = HasLeftBehind table texts (λ text. ⊤) (view_components directory)
 
-pub HasLeft-more : (table : List Move) (texts more : List (List ℕ)) (cs : List Step)
-    → ((text : List ℕ) → Contains texts text → Contains more text) → HasLeft table texts (λ text. ⊤) cs
-    → HasLeft table more (λ text. ⊤) cs
-HasLeft-more table texts more cs kept left =
+pub HasLeftBehind-more : (table : List Move) (texts more : List (List ℕ)) (cs : List Step)
+    → ((text : List ℕ) → Contains texts text → Contains more text) → HasLeftBehind table texts (λ text. ⊤) cs
+    → HasLeftBehind table more (λ text. ⊤) cs
+HasLeftBehind-more table texts more cs kept left =
     record { text = left.text; now = left.now; has = λ any. kept left.text (left.has any) }
 
-pub HasLeft-any : (table : List Move) (texts : List (List ℕ)) (directories : List NormalView) (cs : List Step)
+pub HasLeftBehind-any : (table : List Move) (texts : List (List ℕ)) (directories : List NormalView) (cs : List Step)
     → All (IsLeftAt table texts) directories → Any (λ directory. view_components directory ≡ cs) directories
-    → HasLeft table texts (λ text. ⊤) cs
-HasLeft-any table texts directories cs all (k, directory, within, is, same) =
-    subst (HasLeft table texts (λ text. ⊤)) same (subst (IsLeftAt table texts) is (all k directory within))
+    → HasLeftBehind table texts (λ text. ⊤) cs
+HasLeftBehind-any table texts directories cs all (k, directory, within, is, same) =
+    subst (HasLeftBehind table texts (λ text. ⊤)) same (subst (IsLeftAt table texts) is (all k directory within))
 
-pub AreAllLeft-reverse : (table moves : List Move) (news : List MovedSitePage) (first keys : List (String Global))
+pub AreAllLeftBehind-reverse : (table moves : List Move) (news : List MovedSitePage) (first keys : List (String Global))
     → ((k : ℕ) → k < length moves → (directory : List Step) → IsDirectoryAbove (move_at moves k).old directory
-    → HasLeft table (map string_bytes first) (λ text. ⊤) directory)
+    → HasLeftBehind table (map string_bytes first) (λ text. ⊤) directory)
     → AreWithout (IsLinked table news) (map string_bytes first) (map string_bytes keys)
-    → AreAllLeft table moves news (map string_bytes (reverse keys))
-AreAllLeft-reverse table moves news first keys all without = record {
+    → AreAllLeftBehind table moves news (map string_bytes (reverse keys))
+AreAllLeftBehind-reverse table moves news first keys all without = record {
   unlinked = subst (All (λ text. ¬ IsLinked table news text)) (sym (map-reverse string_bytes keys))
       (All-reverse (λ text. ¬ IsLinked table news text) texts
       (λ k d within.

@@ -94,17 +94,17 @@ AreDrawn-next index before after names name next drawn =
 
 -- ---- the names of the moves, one after another
 
-pub names_left-next : (left before now : List (List ℕ)) (staging : List (String Global)) (k : ℕ) (item : String Global)
+pub staged_names-next : (left before now : List (List ℕ)) (staging : List (String Global)) (k : ℕ) (item : String Global)
     (name : List ℕ) → k < length staging → item ≡ get_or staging k item → name ≡ string_bytes item
     → before ≡ left ++ map string_bytes (take k staging) → now ≡ before ++ name ∷ []
     → now ≡ left ++ map string_bytes (take (k + 1) staging)
-names_left-next left before now staging k item name within is name_is so_far next =
+staged_names-next left before now staging k item name within is name_is so_far next =
     next ∙ ap (λ names. names ++ name ∷ []) so_far
     ∙ append_assoc left (map string_bytes (take k staging)) (name ∷ [])
     ∙ ap (λ one. left ++ (map string_bytes (take k staging) ++ one ∷ [])) (name_is ∙ ap string_bytes is)
     ∙ ap (λ names. left ++ names) (sym (map_more string_bytes staging k item within))
 
-pub names_left-all : (left now : List (List ℕ)) (staging : List (String Global)) (k : ℕ) → length staging ≤ k
+pub staged_names-all : (left now : List (List ℕ)) (staging : List (String Global)) (k : ℕ) → length staging ≤ k
     → now ≡ left ++ map string_bytes (take k staging) → now ≡ left ++ map string_bytes staging
-names_left-all left now staging k all so_far =
+staged_names-all left now staging k all so_far =
     so_far ∙ ap (λ some. left ++ map string_bytes some) (take_all k staging all)

@@ -25,7 +25,7 @@ use Rattle.relmove_steps.specs.declared.staging.FreeNames.{FreeNames}
 use Rattle.relmove_steps.specs.Numbers.{numeral}
 use Rattle.relmove_steps.specs.StagingNames.{numbered_name, IsNumbered, AreDrawn, AreFreeNames, IsDrawn, IsDrawnIn}
 use Rattle.relmove_steps.specs.NewFiles.{IsOneOf, IsNextTo, HaveOwnFiles, EndsUpTo, AreFilesDrawn}
-use Rattle.relmove_steps.specs.Actions.{ActionTexts, WritesPage, WritesPages, with_text, names_left, pages_written}
+use Rattle.relmove_steps.specs.Actions.{ActionTexts, WritesPage, WritesPages, with_text, staged_names, pages_written}
 use Rattle.relmove_steps.proofs.NamesLemmas.{bytes_eq-false, numbered_name-other}
 
 -- ---- a numbered name is one component
@@ -170,7 +170,7 @@ AreFilesDrawn-none index pages free actions none = record {
     unused = none_of (λ new. IsNoneAt entries (components new.1));
     different = subst (AllPairs (λ (one other : List ℕ × List ℕ × List ℕ). one.1 ≢ other.1)) (sym none)
         (λ i j d l within. absurd (let w : j < 0 = within in omega (arith, w)));
-    no_name = none_of (λ new. All (λ staging. new.1 ≢ staging) (names_left actions));
+    no_name = none_of (λ new. All (λ staging. new.1 ≢ staging) (staged_names actions));
   };
 }
   where
@@ -180,7 +180,7 @@ AreFilesDrawn-none index pages free actions none = record {
 -- one new file more
 pub AreFilesDrawn-file : (index : PlaceIndex) (pages : List (List Step)) (before after : FreeNames) (actions : ActionTexts)
     (page file text : List ℕ) → IsDrawnIn (directory (components page)) before after file → IsNormalText page
-    → IsOneOf pages page → AreDrawn index before (names_left actions) → AreFilesDrawn index pages before actions
+    → IsOneOf pages page → AreDrawn index before (staged_names actions) → AreFilesDrawn index pages before actions
     → AreFilesDrawn index pages after (with_text actions page file text)
 AreFilesDrawn-file index pages before after actions page file text next normal one drawn files =
     let new : List ℕ × List ℕ × List ℕ = (page, file, text) in
@@ -212,19 +212,19 @@ AreFilesDrawn-file index pages before after actions page file text next normal o
                 so_far.different
                 (λ k d l. EndsUpTo-other (get_or actions.texts k d).1 file before.last next.number (files.numbered k d l)
                 next.late (directory (components page)) ends);
-            no_name = All-push (λ (new : List ℕ × List ℕ × List ℕ). All (λ staging. new.1 ≢ staging) (names_left actions))
+            no_name = All-push (λ (new : List ℕ × List ℕ × List ℕ). All (λ staging. new.1 ≢ staging) (staged_names actions))
                 actions.texts new so_far.no_name
                 (All-weaker (IsNumbered before.last) (λ staging. file ≢ staging)
                 (λ staging is same. EndsUpTo-other staging file before.last next.number
                 (EndsUpTo-IsNumbered before.last staging is) next.late (directory (components page)) ends
-                (sym same)) (names_left actions) drawn.numbered);
+                (sym same)) (staged_names actions) drawn.numbered);
           };
     }
 
 -- one staging name more
 pub AreFilesDrawn-name : (index : PlaceIndex) (pages : List (List Step)) (before after : FreeNames) (actions more : ActionTexts)
     (staging : List ℕ) → IsDrawn before after staging → more.texts ≡ actions.texts
-    → names_left more ≡ names_left actions ++ staging ∷ [] → AreFilesDrawn index pages before actions
+    → staged_names more ≡ staged_names actions ++ staging ∷ [] → AreFilesDrawn index pages before actions
     → AreFilesDrawn index pages after more
 AreFilesDrawn-name index pages before after actions more staging next texts left files =
     let late = next.late in
@@ -244,9 +244,9 @@ AreFilesDrawn-name index pages before after actions more staging next texts left
             unused = same_texts (λ new. IsNoneAt entries (components new.1)) so_far.unused;
             different = subst (AllPairs (λ (one other : List ℕ × List ℕ × List ℕ). one.1 ≢ other.1)) (sym texts)
                 so_far.different;
-            no_name = same_texts (λ new. All (λ staging. new.1 ≢ staging) (names_left more))
+            no_name = same_texts (λ new. All (λ staging. new.1 ≢ staging) (staged_names more))
                 (λ k d l. subst (All (λ staging. (get_or actions.texts k d).1 ≢ staging)) (sym left)
-                (All-push (λ staging. (get_or actions.texts k d).1 ≢ staging) (names_left actions) staging
+                (All-push (λ staging. (get_or actions.texts k d).1 ≢ staging) (staged_names actions) staging
                 (so_far.no_name k d l)
                 (EndsUpTo-other (get_or actions.texts k d).1 staging before.last next.number (files.numbered k d l) next.late
                 [] ends)));
@@ -265,10 +265,10 @@ HaveOwnFiles-reordered entries pages actions more moved texts own = record {
   next_to = same_texts (λ new. IsNextTo new.0 new.1) own.next_to;
   unused = same_texts (λ new. IsNoneAt entries (components new.1)) own.unused;
   different = subst (AllPairs (λ (one other : List ℕ × List ℕ × List ℕ). one.1 ≢ other.1)) (sym texts) own.different;
-  no_name = same_texts (λ new. All (λ staging. new.1 ≢ staging) (names_left more))
-      (All-weaker (λ (new : List ℕ × List ℕ × List ℕ). All (λ staging. new.1 ≢ staging) (names_left actions))
-      (λ (new : List ℕ × List ℕ × List ℕ). All (λ staging. new.1 ≢ staging) (names_left more))
-      (λ new all. All-permutation (λ staging. new.1 ≢ staging) (names_left actions) (names_left more)
+  no_name = same_texts (λ new. All (λ staging. new.1 ≢ staging) (staged_names more))
+      (All-weaker (λ (new : List ℕ × List ℕ × List ℕ). All (λ staging. new.1 ≢ staging) (staged_names actions))
+      (λ (new : List ℕ × List ℕ × List ℕ). All (λ staging. new.1 ≢ staging) (staged_names more))
+      (λ new all. All-permutation (λ staging. new.1 ≢ staging) (staged_names actions) (staged_names more)
       (IsPermutation-map (λ (step : List ℕ × List ℕ). step.1) actions.staged more.staged moved) all) actions.texts own.no_name);
 }
   where

@@ -101,16 +101,16 @@ with_removed actions from staging = record {
 -- ---- nothing is lost
 
 -- the staging names to which something leaves
-abbrev pub names_left : ActionTexts → List (List ℕ)
-names_left actions = map (λ step. step.1) actions.staged
+abbrev pub staged_names : ActionTexts → List (List ℕ)
+staged_names actions = map (λ step. step.1) actions.staged
 
 -- the staging names from which something comes
-abbrev pub names_come : ActionTexts → List (List ℕ)
-names_come actions = map (λ step. step.0) actions.placed
+abbrev pub placed_names : ActionTexts → List (List ℕ)
+placed_names actions = map (λ step. step.0) actions.placed
 
 -- the names to which something leaves are, each once, those from which something comes and those that are removed
 abbrev pub LosesNothing : ActionTexts → Type 0
-LosesNothing actions = IsPermutation (names_left actions) (names_come actions ++ actions.removed)
+LosesNothing actions = IsPermutation (staged_names actions) (placed_names actions ++ actions.removed)
 
 -- ---- where things go
 

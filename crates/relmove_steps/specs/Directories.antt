@@ -28,12 +28,12 @@ pub record IsAboveAfter (moves : List Move) (path : List Step) (text : List ℕ)
   pub now : AtTreePath moves directory (λ target. IsNormalTextOf target text)
 
 -- the text is the normal path, after the moves of a table, of a directory that is above the old path of one of these moves
-abbrev pub IsLeftByMove : List Move → List Move → List ℕ → Type 0
-IsLeftByMove table moves text = (k : ℕ) × (k < length moves) × IsAboveAfter table (move_at moves k).old text
+abbrev pub IsLeftBehindByMove : List Move → List Move → List ℕ → Type 0
+IsLeftBehindByMove table moves text = (k : ℕ) × (k < length moves) × IsAboveAfter table (move_at moves k).old text
 
 -- each of the texts is of such a directory
-abbrev pub AreLeftByMoves : List Move → List Move → List (String Global) → Type 0
-AreLeftByMoves table moves texts = All (λ text. IsLeftByMove table moves (string_bytes text)) texts
+abbrev pub AreLeftBehindByMoves : List Move → List Move → List (String Global) → Type 0
+AreLeftBehindByMoves table moves texts = All (λ text. IsLeftBehindByMove table moves (string_bytes text)) texts
 
 -- the directory is above the path in its normal form
 pub record IsDirectoryAbove (path directory : List Step) : Type 0 where
@@ -56,16 +56,16 @@ abbrev pub IsLinked : List Move → List MovedSitePage → List ℕ → Type 0
 IsLinked table news text = Any (HasLinkTo table text) news
 
 -- the text is where the directory is after the moves, and one of the texts if P holds of it
-pub record HasLeft (table : List Move) (texts : List (List ℕ)) (P : List ℕ → Type 0) (directory : List Step) : Type 0 where
+pub record HasLeftBehind (table : List Move) (texts : List (List ℕ)) (P : List ℕ → Type 0) (directory : List Step) : Type 0 where
   pub text : List ℕ
   pub now : AtTreePath table directory (λ target. IsNormalTextOf target text)
   pub has : P text → Contains texts text
 
 -- no link leads to one of the texts, and they are those of all directories above old paths to which no link leads
-pub record AreAllLeft (table moves : List Move) (news : List MovedSitePage) (texts : List (List ℕ)) : Type 0 where
+pub record AreAllLeftBehind (table moves : List Move) (news : List MovedSitePage) (texts : List (List ℕ)) : Type 0 where
   pub unlinked : All (λ text. ¬ IsLinked table news text) texts
   pub complete : (k : ℕ) → k < length moves → (directory : List Step) → IsDirectoryAbove (move_at moves k).old directory
-      → HasLeft table texts (λ text. ¬ IsLinked table news text) directory
+      → HasLeftBehind table texts (λ text. ¬ IsLinked table news text) directory
 
 -- the texts after are those before, without these
 pub record AreWithout (gone : List ℕ → Type 0) (before after : List (List ℕ)) : Type 0 where

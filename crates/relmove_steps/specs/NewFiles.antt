@@ -10,7 +10,7 @@ use Rattle.relmove_checks.specs.Moves.{EachMove}
 use Rattle.relmove_checks.specs.Trees.{AreDistinct}
 use Rattle.relmove_steps.specs.declared.staging.FreeNames.{FreeNames}
 use Rattle.relmove_steps.specs.StagingNames.{numbered_name}
-use Rattle.relmove_steps.specs.Actions.{ActionTexts, names_left}
+use Rattle.relmove_steps.specs.Actions.{ActionTexts, staged_names}
 
 -- the text is the normal text of one of the paths
 abbrev pub IsOneOf : List (List Step) → List ℕ → Type 0
@@ -29,7 +29,7 @@ pub record HaveOwnFiles (entries pages : List (List Step)) (actions : ActionText
   pub next_to : All (λ new. IsNextTo new.0 new.1) actions.texts
   pub unused : All (λ new. IsNoneAt entries (components new.1)) actions.texts
   pub different : AllPairs (λ one other. one.1 ≢ other.1) actions.texts
-  pub no_name : All (λ new. All (λ staging. new.1 ≢ staging) (names_left actions)) actions.texts
+  pub no_name : All (λ new. All (λ staging. new.1 ≢ staging) (staged_names actions)) actions.texts
 
 -- nothing leaves the same path twice
 abbrev pub LeaveOnce : ActionTexts → Type 0

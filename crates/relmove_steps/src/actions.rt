@@ -7,8 +7,8 @@ ghost use Rattle.relative_path_places.specs.declared.place_index.PlaceIndex.{Pla
 ghost use Rattle.relmove_checks.specs.Moves.{EachMove};
 ghost use Rattle.relmove_steps.specs.NewFiles.{AreFilesDrawn, HaveOwnFiles, LeaveFromEntries, LeaveOnce};
 ghost use Rattle.relmove_steps.specs.Pages.{changed_paths};
-ghost use Rattle.relmove_steps.specs.Directories.{AreAllLeft, AreLeftByMoves, AreMade, LeaveToNames, MakesMissing, moves_to_names};
-ghost use Rattle.relmove_steps.specs.Actions.{AboveFirst, BelowFirst, DoesMove, LosesNothing, OnlyTheseLeave, RemovesAt, ReplacesPages, WritesPages, names_left, rename_texts, action_texts};
+ghost use Rattle.relmove_steps.specs.Directories.{AreAllLeftBehind, AreLeftBehindByMoves, AreMade, LeaveToNames, MakesMissing, moves_to_names};
+ghost use Rattle.relmove_steps.specs.Actions.{AboveFirst, BelowFirst, DoesMove, LosesNothing, OnlyTheseLeave, RemovesAt, ReplacesPages, WritesPages, staged_names, rename_texts, action_texts};
 ghost use Rattle.relmove_steps.specs.StagingNames.{AreDrawn, AreFreeNames};
 
 use crate::changed::changed_index;
@@ -70,16 +70,16 @@ pub fn actions_of(
         (λ actions. AllPairs (λ one other. one ≢ other) (map string_bytes actions.emptied.items)) }
     // `emptied` has only directories above old paths, where they are after the moves
     ensures left { IfOk result
-        (λ actions. AreLeftByMoves now.entry.table.now now.entry.table.now actions.emptied.items) }
+        (λ actions. AreLeftBehindByMoves now.entry.table.now now.entry.table.now actions.emptied.items) }
     // and it has all of them to which no link leads, and no others
     ensures all { IfOk result (λ actions. AreApart now.entry.table.now
-        → AreAllLeft now.entry.table.now now.entry.table.now now.entry.pages.now (map string_bytes actions.emptied.items)) }
+        → AreAllLeftBehind now.entry.table.now now.entry.table.now now.entry.pages.now (map string_bytes actions.emptied.items)) }
     // nothing leaves but from old paths, changed pages and the files of new texts
     ensures only { IfOk result (λ actions. OnlyTheseLeave now.entry.table.now
         (changed_paths pages.now now.entry.pages.now) (action_texts actions)) }
     // staging names are `.relmove-` and a number, all different, and no entry has one
     ensures names { IfOk result (λ actions. (paths : List (List Step)) → Indexes paths now.entry.index.now
-        → AreFreeNames paths (names_left (action_texts actions))) }
+        → AreFreeNames paths (staged_names (action_texts actions))) }
     // new texts are of exactly the changed pages, in order
     ensures texts { IfOk result (λ actions. WritesPages
         (changed_paths pages.now now.entry.pages.now) (action_texts actions)) }
@@ -130,7 +130,7 @@ fn renames_of(
         (changed_paths pages.now now.entry.pages.now) (rename_texts renames)) }
     ensures free { IfOk result (λ renames. (index : PlaceIndex)
         → AreDrawn index names.old (map string_bytes staging.now)
-        → AreDrawn index names.new (names_left (rename_texts renames))) }
+        → AreDrawn index names.new (staged_names (rename_texts renames))) }
     ensures files { IfOk result (λ renames. (index : PlaceIndex)
         → AreDrawn index names.old (map string_bytes staging.now)
         → AreFilesDrawn index (changed_paths pages.now now.entry.pages.now) names.new (rename_texts renames)) }

@@ -9,7 +9,7 @@ ghost use Rattle.relative_path_moves.specs.Moves.{AreApart, Move, move_at, writt
 ghost use Rattle.relative_path_moves.specs.TreeMoves.{AtTreePath};
 ghost use Rattle.relative_path_places.specs.PlaceIndex.{Indexes, IsNoneAt};
 ghost use Rattle.relative_path_places.specs.Views.{view_text, view_components};
-ghost use Rattle.relmove_steps.specs.Directories.{AreAllLeft, AreLeftByMoves, AreMissingTexts, AreTaken, AreWithout, HasDirectory, HasLeft, HasLinkTo, HaveTextOf, IsDirectoryAbove, IsLinked};
+ghost use Rattle.relmove_steps.specs.Directories.{AreAllLeftBehind, AreLeftBehindByMoves, AreMissingTexts, AreTaken, AreWithout, HasDirectory, HasLeftBehind, HasLinkTo, HaveTextOf, IsDirectoryAbove, IsLinked};
 ghost use Rattle.relmove_steps.specs.Actions.{BelowFirst};
 
 use relative_path::RelativePath;
@@ -80,9 +80,9 @@ pub(crate) fn directories_emptied(
     ensures order { IfOk result (λ emptied. BelowFirst (map string_bytes emptied.items)) }
     ensures different { IfOk result (λ emptied. AllPairs (λ one other. one ≢ other) (map string_bytes emptied.items)) }
     ensures left { IfOk result
-        (λ emptied. AreLeftByMoves table.now (written_moves moves.now) emptied.items) }
+        (λ emptied. AreLeftBehindByMoves table.now (written_moves moves.now) emptied.items) }
     ensures all { IfOk result (λ emptied. AreApart table.now
-        → AreAllLeft table.now (written_moves moves.now) news.now (map string_bytes emptied.items)) }
+        → AreAllLeftBehind table.now (written_moves moves.now) news.now (map string_bytes emptied.items)) }
 {
     let mut left = BTreeSet::new(alloc);
     for a in moves {
@@ -114,11 +114,11 @@ fn add_left(
 ) -> Result<(), AllocError>
     ensures left { OnOk result ((moves : List Move) (k : ℕ) → k < length moves
         → (move_at moves k).old ≡ path_components path.now
-        → AreLeftByMoves table.now moves left.old.keys → AreLeftByMoves table.now moves left.new.keys) }
+        → AreLeftBehindByMoves table.now moves left.old.keys → AreLeftBehindByMoves table.now moves left.new.keys) }
     ensures kept { OnOk result ((text : List ℕ) → Contains (map string_bytes left.old.keys) text
         → Contains (map string_bytes left.new.keys) text) }
     ensures all { OnOk result ((directory : List Step) → IsDirectoryAbove (path_components path.now) directory
-        → HasLeft table.now (map string_bytes left.new.keys) (λ text. ⊤) directory) }
+        → HasLeftBehind table.now (map string_bytes left.new.keys) (λ text. ⊤) directory) }
 {
     let path = path.normal();
     let directories = directories_above(alloc, path.view())?;
@@ -136,8 +136,8 @@ fn remove_all_linked(
     news: &[MovedSitePage],
     table: &TreeMoves<'_>,
 ) -> Result<(), AllocError>
-    ensures left { OnOk result ((moves : List Move) → AreLeftByMoves table.now moves left.old.keys
-        → AreLeftByMoves table.now moves left.new.keys) }
+    ensures left { OnOk result ((moves : List Move) → AreLeftBehindByMoves table.now moves left.old.keys
+        → AreLeftBehindByMoves table.now moves left.new.keys) }
     ensures without { OnOk result (AreApart table.now → AreWithout (IsLinked table.now news.now)
         (map string_bytes left.old.keys) (map string_bytes left.new.keys)) }
 {
@@ -157,8 +157,8 @@ fn remove_linked(
     new: &MovedSitePage,
     table: &TreeMoves<'_>,
 ) -> Result<(), AllocError>
-    ensures left { OnOk result ((moves : List Move) → AreLeftByMoves table.now moves left.old.keys
-        → AreLeftByMoves table.now moves left.new.keys) }
+    ensures left { OnOk result ((moves : List Move) → AreLeftBehindByMoves table.now moves left.old.keys
+        → AreLeftBehindByMoves table.now moves left.new.keys) }
     ensures without { OnOk result (AreApart table.now → AreWithout (λ text. HasLinkTo table.now text new.now)
         (map string_bytes left.old.keys) (map string_bytes left.new.keys)) }
 {
@@ -177,8 +177,8 @@ fn remove_file(
     file: &NormalPath,
     table: &TreeMoves<'_>,
 ) -> Result<(), AllocError>
-    ensures left { OnOk result ((moves : List Move) → AreLeftByMoves table.now moves left.old.keys
-        → AreLeftByMoves table.now moves left.new.keys) }
+    ensures left { OnOk result ((moves : List Move) → AreLeftBehindByMoves table.now moves left.old.keys
+        → AreLeftBehindByMoves table.now moves left.new.keys) }
     ensures without { OnOk result (AreApart table.now → AreWithout
         (λ text. AtTreePath table.now (components file.now) (λ target. IsNormalTextOf target text))
         (map string_bytes left.old.keys) (map string_bytes left.new.keys)) }

@@ -8,7 +8,7 @@ ghost use Rattle.relative_path_moves.specs.Moves.{AreApart, Move, move_at, writt
 ghost use Rattle.relative_path_places.specs.PlaceIndex.{Indexes, IsNoneAt, path_at};
 ghost use Rattle.relative_path_places.specs.declared.place_index.PlaceIndex.{PlaceIndex};
 ghost use Rattle.relmove_checks.specs.Moves.{EachMove, move_of};
-ghost use Rattle.relmove_steps.specs.Actions.{AreAmong, DoesMove, LosesNothing, RemovesAt, RemovesMoved, ReplacesPage, ReplacesPages, OnlyTheseLeave, WritesPage, WritesPages, names_left, old_paths, rename_texts, with_carried, with_removed, with_text};
+ghost use Rattle.relmove_steps.specs.Actions.{AreAmong, DoesMove, LosesNothing, RemovesAt, RemovesMoved, ReplacesPage, ReplacesPages, OnlyTheseLeave, WritesPage, WritesPages, staged_names, old_paths, rename_texts, with_carried, with_removed, with_text};
 ghost use Rattle.relmove_steps.specs.Pages.{changed_paths};
 ghost use Rattle.relmove_steps.specs.StagingNames.{AreDrawn};
 ghost use Rattle.relmove_steps.specs.NewFiles.{AreFilesDrawn, DoNothingYet, LeaveFromEntries, LeaveOnce, LeavesToo, StaysThere};
@@ -74,7 +74,7 @@ impl Renames {
     // Returns a list without renames.
     pub(crate) fn new(alloc: Global) -> Renames
         ensures kept { LosesNothing (rename_texts result) }
-        ensures left { names_left (rename_texts result) ≡ [] }
+        ensures left { staged_names (rename_texts result) ≡ [] }
         ensures only { (moves : List Move) (paths : List (List Step))
             → OnlyTheseLeave moves paths (rename_texts result) }
         ensures none { DoNothingYet (rename_texts result) }
@@ -155,8 +155,8 @@ pub(crate) fn add_moves(
     ensures kept { OnOk result (LosesNothing (rename_texts renames.new)) }
     ensures moved { OnOk result ((paths : List (List Step)) → Indexes paths changed.now
         → EachMove (DoesMove paths (rename_texts renames.new)) (written_moves moves.now)) }
-    ensures left { OnOk result (names_left (rename_texts renames.new)
-        ≡ names_left (rename_texts renames.old) ++ map string_bytes staging.now) }
+    ensures left { OnOk result (staged_names (rename_texts renames.new)
+        ≡ staged_names (rename_texts renames.old) ++ map string_bytes staging.now) }
     ensures only { OnOk result ((paths : List (List Step))
         → OnlyTheseLeave (written_moves moves.now) paths (rename_texts renames.old)
         → OnlyTheseLeave (written_moves moves.now) paths (rename_texts renames.new)) }
@@ -188,8 +188,8 @@ fn add_move(
     ensures moved { OnOk result ((paths : List (List Step)) → Indexes paths changed.now
         → DoesMove paths (rename_texts renames.new)
         (move_of (path_components old.now) (path_components new.now))) }
-    ensures left { OnOk result (names_left (rename_texts renames.new)
-        ≡ names_left (rename_texts renames.old) ++ name.now ∷ []) }
+    ensures left { OnOk result (staged_names (rename_texts renames.new)
+        ≡ staged_names (rename_texts renames.old) ++ name.now ∷ []) }
     ensures only { OnOk result ((moves : List Move) (paths : List (List Step)) (k : ℕ) → k < length moves
         → move_at moves k ≡ move_of (path_components old.now) (path_components new.now)
         → OnlyTheseLeave moves paths (rename_texts renames.old)
@@ -236,16 +236,16 @@ pub(crate) fn add_pages(
         → OnlyTheseLeave moves (changed_paths pages.now news.now) (rename_texts renames.old)
         → OnlyTheseLeave moves (changed_paths pages.now news.now) (rename_texts renames.new)) }
     ensures free { OnOk result ((index : PlaceIndex)
-        → AreDrawn index names.old (names_left (rename_texts renames.old))
-        → AreDrawn index names.new (names_left (rename_texts renames.new))) }
+        → AreDrawn index names.old (staged_names (rename_texts renames.old))
+        → AreDrawn index names.new (staged_names (rename_texts renames.new))) }
     ensures files { OnOk result ((index : PlaceIndex)
-        → AreDrawn index names.old (names_left (rename_texts renames.old))
+        → AreDrawn index names.old (staged_names (rename_texts renames.old))
         → AreFilesDrawn index (changed_paths pages.now news.now) names.old (rename_texts renames.old)
         → AreFilesDrawn index (changed_paths pages.now news.now) names.new (rename_texts renames.new)) }
     ensures once { OnOk result ((index : PlaceIndex) (entries : List (List Step)) (moves : List Move)
         → Indexes entries index → Indexes (old_paths moves) olds.now
         → LeaveFromEntries entries moves (changed_paths pages.now news.now)
-        → AreDrawn index names.old (names_left (rename_texts renames.old))
+        → AreDrawn index names.old (staged_names (rename_texts renames.old))
         → AreFilesDrawn index (changed_paths pages.now news.now) names.old (rename_texts renames.old)
         → OnlyTheseLeave moves [] (rename_texts renames.old)
         → LeaveOnce (rename_texts renames.old) → LeaveOnce (rename_texts renames.new)) }
@@ -283,17 +283,17 @@ fn add_page(
         → OnlyTheseLeave moves paths (rename_texts renames.old)
         → OnlyTheseLeave moves paths (rename_texts renames.new)) }
     ensures free { OnOk result ((index : PlaceIndex)
-        → AreDrawn index names.old (names_left (rename_texts renames.old))
-        → AreDrawn index names.new (names_left (rename_texts renames.new))) }
+        → AreDrawn index names.old (staged_names (rename_texts renames.old))
+        → AreDrawn index names.new (staged_names (rename_texts renames.new))) }
     ensures files { OnOk result ((index : PlaceIndex) (paths : List (List Step)) (k : ℕ) → k < length paths
         → path_at paths k ≡ components page.entry.path.now
-        → AreDrawn index names.old (names_left (rename_texts renames.old))
+        → AreDrawn index names.old (staged_names (rename_texts renames.old))
         → AreFilesDrawn index paths names.old (rename_texts renames.old)
         → AreFilesDrawn index paths names.new (rename_texts renames.new)) }
     ensures once { OnOk result ((index : PlaceIndex) (entries paths : List (List Step)) (moves : List Move) (k : ℕ)
         → Indexes entries index → Indexes (old_paths moves) olds.now → LeaveFromEntries entries moves paths
         → k < length paths → path_at paths k ≡ components page.entry.path.now
-        → AreDrawn index names.old (names_left (rename_texts renames.old))
+        → AreDrawn index names.old (staged_names (rename_texts renames.old))
         → AreFilesDrawn index paths names.old (rename_texts renames.old)
         → OnlyTheseLeave moves (take k paths) (rename_texts renames.old)
         → LeaveOnce (rename_texts renames.old) → LeaveOnce (rename_texts renames.new)) }
@@ -329,8 +329,8 @@ fn add_old_text(
         → IsNormalTextOf (path_at paths k) page → OnlyTheseLeave moves paths (rename_texts renames.old)
         → OnlyTheseLeave moves paths (rename_texts renames.new)) }
     ensures free { OnOk result ((index : PlaceIndex)
-        → AreDrawn index names.old (names_left (rename_texts renames.old))
-        → AreDrawn index names.new (names_left (rename_texts renames.new))) }
+        → AreDrawn index names.old (staged_names (rename_texts renames.old))
+        → AreDrawn index names.new (staged_names (rename_texts renames.new))) }
     ensures files { OnOk result ((index : PlaceIndex) (paths : List (List Step))
         → AreFilesDrawn index paths names.old (rename_texts renames.old)
         → AreFilesDrawn index paths names.new (rename_texts renames.new)) }

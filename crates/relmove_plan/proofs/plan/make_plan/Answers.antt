@@ -7,7 +7,7 @@ use Rattle.relative_path_moves.specs.Moves.{moves_of}
 use Rattle.relative_path_places.specs.PlaceIndex.{Indexes}
 use Rattle.relmove_checks.proofs.ForCallers.{IfErr-error}
 use Rattle.relmove_checks.specs.Trees.{entry_paths}
-use Rattle.relmove_steps.specs.Directories.{IsLeftByMove, MakesMissing}
+use Rattle.relmove_steps.specs.Directories.{IsLeftBehindByMove, MakesMissing}
 use Rattle.relmove_steps.specs.NewFiles.{LeaveFromEntries, LeaveOnce}
 use Rattle.relmove_steps.specs.Pages.{changed_paths, page_paths}
 use Rattle.relmove_steps.specs.Actions.{action_texts}
@@ -102,7 +102,7 @@ returns-clause-run g c = λ whole.
     let emptied = c.in_ok-actions.actions.emptied.items in
     RunsOn-plan (planned g c whole) (map string_bytes c.in_ok-actions.actions.made.items) (map string_bytes emptied)
     (makes g c whole) c.in_ok-actions.ensures.emptied c.in_ok-actions.ensures.different
-    (All-map (IsLeftByMove (moves_of c.args.moves.now) (moves_of c.args.moves.now)) string_bytes emptied
+    (All-map (IsLeftBehindByMove (moves_of c.args.moves.now) (moves_of c.args.moves.now)) string_bytes emptied
     (rw c.in_ok-table.ensures.table at c.in_ok-actions.ensures.left))
     ((rw (c.deref.ensures.value, c.in_ok-table.ensures.table) at c.in_ok-actions.ensures.all)
     (planned g c whole).accepted.apart.come.leave.apart)

@@ -5,7 +5,7 @@ use Rattle.std.proofs.lemmas.List.Sorted.{IsPermutation-map}
 use Rattle.relative_path_moves.specs.Moves.{move_at}
 use Rattle.relmove_steps.specs.declared.renames.Renames.{Renames}
 use Rattle.relmove_actions.specs.declared.actions.Rename.{Rename}
-use Rattle.relmove_steps.specs.Actions.{ActionTexts, RemovesAt, names_left, new_text, rename_text, rename_texts, to_name}
+use Rattle.relmove_steps.specs.Actions.{ActionTexts, RemovesAt, staged_names, new_text, rename_text, rename_texts, to_name}
 use Rattle.relmove_steps.specs.Pages.{changed_paths}
 use Rattle.relmove_steps.proofs.ActionsLemmas.{LosesNothing-reordered}
 use Rattle.relmove_steps.proofs.CarryLemmas.{AreAmong-reordered, DoesMove-among, RemovesAt-among, ReplacesPages-among}
@@ -85,7 +85,7 @@ returns-clause-names c = λ paths has.
     let staged = map rename_text c.in_ok-below_first.field-0.items in
     let staging = c.in_ok-staging.ensures.free index c.new-names.ensures in
     let drawn = c.in_ok-renames.ensures.free index (rw c.deref.ensures.value staging) in
-    AreFreeNames-IsPermutation paths (names_left (rename_texts renames)) (map (λ (step : List ℕ × List ℕ). step.1) staged)
+    AreFreeNames-IsPermutation paths (staged_names (rename_texts renames)) (map (λ (step : List ℕ × List ℕ). step.1) staged)
     (IsPermutation-map (λ (step : List ℕ × List ℕ). step.1)
     (map to_name renames.leaving.items) staged c.in_ok-below_first.ensures.same)
     (drawn.fresh paths has)

@@ -9,9 +9,9 @@ use Rattle.relative_path_moves.specs.TreeMoves.{AtTreePath}
 use Rattle.relative_path_places.proofs.ForCallers.{IsNormalTextOf-view}
 use Rattle.relative_path.specs.Steps.{components}
 use Rattle.relative_path_places.specs.Views.{view_components}
-use Rattle.relmove_steps.specs.Directories.{AreLeftByMoves, HasDirectory, IsLeftByMove}
+use Rattle.relmove_steps.specs.Directories.{AreLeftBehindByMoves, HasDirectory, IsLeftBehindByMove}
 use Rattle.relmove_steps.proofs.CarryLemmas.{All-taken}
-use Rattle.relmove_steps.proofs.DirectoriesLemmas.{Contains-insert_key, Contains-insert_key_kept, HasDirectory-normal, HasLeft-any, HasLeft-more, IsLeftAt, IsLeftByMove-here, text_cmp, text_ties}
+use Rattle.relmove_steps.proofs.DirectoriesLemmas.{Contains-insert_key, Contains-insert_key_kept, HasDirectory-normal, HasLeftBehind-any, HasLeftBehind-more, IsLeftAt, IsLeftBehindByMove-here, text_cmp, text_ties}
 use Rattle.relmove_steps.proofs.directories.add_left.Goals as goal
 
 pub loop-directory-init : goal.loop-directory-init
@@ -40,18 +40,18 @@ loop-directory-preserved c =
     let at = c.in_ok-now.ensures (view_components directory) (IsNormalTextOf-view directory) in
     record {
       left = λ moves k_2 l here first.
-          let is : IsLeftByMove tree moves text =
-          IsLeftByMove-here tree moves k_2 (path_components c.args.path.now) _ normal c.in_ok-now.now text l here
+          let is : IsLeftBehindByMove tree moves text =
+          IsLeftBehindByMove-here tree moves k_2 (path_components c.args.path.now) _ normal c.in_ok-now.now text l here
           c.normal-path.ensures
           (subst (λ directory. HasDirectory (components normal) (view_components directory)) (sym c.directory-item.is)
           (has k directory within)) at same in
-          subst (AreLeftByMoves tree moves) (sym c.in_ok-insert.ensures.keys)
-          (All-insert_key _ key (λ text. IsLeftByMove tree moves (string_bytes text)) keys
+          subst (AreLeftBehindByMoves tree moves) (sym c.in_ok-insert.ensures.keys)
+          (All-insert_key _ key (λ text. IsLeftBehindByMove tree moves (string_bytes text)) keys
           (c.loop-directory.invariant.left moves k_2 l here first) is);
       kept = λ text has. rw c.in_ok-insert.ensures.keys (kept text (c.loop-directory.invariant.kept text has));
       all = rw c.in_ok-insert.ensures.keys
           (All-more (IsLeftAt tree now) c.deref-directory-items.result.now k directory within
-          (All-weaker (IsLeftAt tree before) (IsLeftAt tree now) (λ one. HasLeft-more tree before now (view_components one) kept)
+          (All-weaker (IsLeftAt tree before) (IsLeftAt tree now) (λ one. HasLeftBehind-more tree before now (view_components one) kept)
           (take k c.deref-directory-items.result.now) c.loop-directory.invariant.all)
           (subst (IsLeftAt tree now) c.directory-item.is (record {
             text = text;
@@ -72,7 +72,7 @@ returns-clause-all c = λ directory above.
     let texts = map (string_bytes {Z = Global}) c.loop-directory.left.keys in
     let items = c.deref-directory-items.result.now in
     let last = c.loop-directory-test.false in
-    HasLeft-any tree texts items directory
+    HasLeftBehind-any tree texts items directory
     (All-taken (IsLeftAt tree texts) items c.loop-directory.directory-index (omega (arith, last))
     c.loop-directory.invariant.all)
     (rw (sym c.deref-directory-items.ensures.value) at (c.in_ok-directories.ensures.all directory

@@ -4,14 +4,14 @@ use Rattle.std.specs.Prelude.{⊤}
 use Rattle.relative_path.specs.RelativePath.{path_components}
 use Rattle.relative_path_moves.specs.Moves.{Move, move_at}
 use Rattle.relative_path_places.specs.Views.{view_components}
-use Rattle.relmove_steps.specs.Directories.{AreLeftByMoves, HasLeft}
+use Rattle.relmove_steps.specs.Directories.{AreLeftBehindByMoves, HasLeftBehind}
 use Rattle.relmove_steps.proofs.directories.add_left.Given as goal
 
 abbrev pub invariant-loop-directory : goal.invariant-loop-directory
 invariant-loop-directory l = record {
   left : (moves : List Move) (k : ℕ) → k < length moves → (move_at moves k).old ≡ path_components l.fn.path
-      → AreLeftByMoves l.table moves l.fn.left.keys → AreLeftByMoves l.table moves l.left.keys;
+      → AreLeftBehindByMoves l.table moves l.fn.left.keys → AreLeftBehindByMoves l.table moves l.left.keys;
   kept : (text : List ℕ) → Contains (map string_bytes l.fn.left.keys) text → Contains (map string_bytes l.left.keys) text;
-  all : All (λ directory. HasLeft l.table (map string_bytes l.left.keys) (λ text. ⊤) (view_components directory))
+  all : All (λ directory. HasLeftBehind l.table (map string_bytes l.left.keys) (λ text. ⊤) (view_components directory))
       (take l.directory-index l.directory-items);
 }

@@ -5,8 +5,8 @@ use Rattle.std.proofs.lemmas.Result.{IfOk-weaker}
 use Rattle.relative_path.specs.Steps.{Step}
 use Rattle.relative_path_moves.specs.Moves.{move_at, written_moves}
 use Rattle.relmove_checks.proofs.ForCallers.{length-written, move_at-written}
-use Rattle.relmove_steps.specs.Directories.{HasLeft, IsDirectoryAbove, IsLeftByMove}
-use Rattle.relmove_steps.proofs.DirectoriesLemmas.{All-reverse, AreAllLeft-reverse, HasLeft-more}
+use Rattle.relmove_steps.specs.Directories.{HasLeftBehind, IsDirectoryAbove, IsLeftBehindByMove}
+use Rattle.relmove_steps.proofs.DirectoriesLemmas.{All-reverse, AreAllLeftBehind-reverse, HasLeftBehind-more}
 use borrow.Author.Count.{below_more}
 use Rattle.relmove_steps.proofs.directories.directories_emptied.Goals as goal
 
@@ -21,9 +21,9 @@ loop-a-preserved c =
       left = c.in_ok-add_left.ensures.left moves k (rw (length-written c.args.moves.now) c.loop-a-test.true) here
           c.loop-a.invariant.left;
       all = below_more (λ j. (directory : List Step) → IsDirectoryAbove (move_at moves j).old directory
-          → HasLeft c.args.table.now now (λ text. ⊤) directory) k
+          → HasLeftBehind c.args.table.now now (λ text. ⊤) directory) k
           (λ j l directory above.
-          HasLeft-more c.args.table.now before now directory c.in_ok-add_left.ensures.kept
+          HasLeftBehind-more c.args.table.now before now directory c.in_ok-add_left.ensures.kept
           (c.loop-a.invariant.all j l directory above))
           (λ directory above.
           c.in_ok-add_left.ensures.all directory (subst (λ cs. IsDirectoryAbove cs directory) here above));
@@ -33,7 +33,7 @@ pub returns-clause-left : goal.returns-clause-left
 returns-clause-left c =
     let moves = written_moves c.args.moves.now in
     IfOk-weaker c.from_last.result _ _
-    (λ texts is. rw is (All-reverse (λ text. IsLeftByMove c.args.table.now moves (string_bytes text))
+    (λ texts is. rw is (All-reverse (λ text. IsLeftBehindByMove c.args.table.now moves (string_bytes text))
     c.remove_all_linked.new.left.keys
     (c.in_ok-remove_all_linked.ensures.left moves c.loop-a.invariant.left))) c.from_last.ensures.reversed
 
@@ -46,7 +46,7 @@ returns-clause-all c =
     let last = c.loop-a-test.false in
     IfOk-weaker c.from_last.result _ _
     (λ texts is. λ apart. rw is
-    (AreAllLeft-reverse table moves c.args.news.now first keys
+    (AreAllLeftBehind-reverse table moves c.args.news.now first keys
     (λ k l directory above.
     let within : k < length c.args.moves.now = rw length-written at l in
     c.loop-a.invariant.all k (omega (arith, within, last)) directory above)

@@ -3,12 +3,12 @@ use Rattle.std.proofs.Common.{◌<◌, List, ℕ, map, string_bytes}
 use Rattle.std.specs.Prelude.{⊤}
 use Rattle.relative_path.specs.Steps.{Step}
 use Rattle.relative_path_moves.specs.Moves.{move_at, written_moves}
-use Rattle.relmove_steps.specs.Directories.{AreLeftByMoves, HasLeft, IsDirectoryAbove}
+use Rattle.relmove_steps.specs.Directories.{AreLeftBehindByMoves, HasLeftBehind, IsDirectoryAbove}
 use Rattle.relmove_steps.proofs.directories.directories_emptied.Given as goal
 
 abbrev pub invariant-loop-a : goal.invariant-loop-a
 invariant-loop-a l = record {
-  left : AreLeftByMoves l.table (written_moves l.moves) l.left.keys;
+  left : AreLeftBehindByMoves l.table (written_moves l.moves) l.left.keys;
   all : (k : ℕ) → k < l.a-index → (directory : List Step) → IsDirectoryAbove (move_at (written_moves l.moves) k).old directory
-      → HasLeft l.table (map string_bytes l.left.keys) (λ text. ⊤) directory;
+      → HasLeftBehind l.table (map string_bytes l.left.keys) (λ text. ⊤) directory;
 }

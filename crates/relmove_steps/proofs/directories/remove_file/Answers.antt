@@ -8,19 +8,19 @@ use Rattle.relative_path_moves.proofs.ForCallers.{IsTreePath-only}
 use Rattle.relative_path_moves.specs.Moves.{AreApart, Move}
 use Rattle.relative_path_moves.specs.TreeMoves.{AtTreePath, IsTreePath}
 use Rattle.relative_path_places.proofs.ForCallers.{IsNormalTextOf-same}
-use Rattle.relmove_steps.specs.Directories.{IsLeftByMove}
+use Rattle.relmove_steps.specs.Directories.{IsLeftBehindByMove}
 use Rattle.relmove_steps.proofs.DirectoriesLemmas.{AreWithout-remove_key, AreWithout-same}
 use Rattle.relmove_steps.proofs.directories.remove_file.Goals as goal
 
 pub returns-in-Some-clause-left : goal.returns-in-Some-clause-left
 returns-in-Some-clause-left c = λ moves before.
     rw c.remove.ensures.keys
-    (All-remove_key _ (λ text. IsLeftByMove c.args.table.now moves (string_bytes text)) c.args.left.now.keys before)
+    (All-remove_key _ (λ text. IsLeftBehindByMove c.args.table.now moves (string_bytes text)) c.args.left.now.keys before)
 
 pub returns-in-None-clause-left : goal.returns-in-None-clause-left
 returns-in-None-clause-left c = λ moves before.
     rw c.remove-in-None.ensures.keys
-    (All-remove_key _ (λ text. IsLeftByMove c.args.table.now moves (string_bytes text)) c.args.left.now.keys before)
+    (All-remove_key _ (λ text. IsLeftBehindByMove c.args.table.now moves (string_bytes text)) c.args.left.now.keys before)
 
 -- a path has one normal text after the moves
 one_text : (table : List Move) (cs target : List Step) (value : List ℕ) → AreApart table → IsTreePath table cs target

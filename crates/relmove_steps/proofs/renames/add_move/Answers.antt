@@ -4,9 +4,9 @@ use Rattle.std.proofs.lemmas.Result.{on_ok_weaker}
 use Rattle.relative_path.specs.Normalizing.{IsNormalTextOf}
 use Rattle.relative_path.specs.RelativePath.{path_components}
 use Rattle.relmove_checks.specs.Moves.{move_of}
-use Rattle.relmove_steps.specs.Actions.{AreAmong, DoesMove, LosesNothing, OnlyTheseLeave, ActionTexts, of_move, names_left, rename_texts}
+use Rattle.relmove_steps.specs.Actions.{AreAmong, DoesMove, LosesNothing, OnlyTheseLeave, ActionTexts, of_move, staged_names, rename_texts}
 use Rattle.relmove_steps.specs.NewFiles.{LeaveOnce}
-use Rattle.relmove_steps.proofs.ActionsLemmas.{LosesNothing-with_carried, LosesNothing-with_removed, names_left-push}
+use Rattle.relmove_steps.proofs.ActionsLemmas.{LosesNothing-with_carried, LosesNothing-with_removed, staged_names-push}
 use Rattle.relmove_steps.proofs.CarryLemmas.{AreAmong-with_carried, AreAmong-with_removed, DoesMove-carried, DoesMove-removed}
 use Rattle.relmove_steps.proofs.OnlyLemmas.{OnlyTheseLeave-with_carried, OnlyTheseLeave-with_removed}
 use Rattle.relmove_steps.proofs.OnceLemmas.{LeaveOnce-with_carried, LeaveOnce-with_removed}
@@ -32,7 +32,7 @@ returns-then-is_some c =
           (DoesMove-removed actions paths move c.get.result from name
           (c.get.ensures.found paths move.old has c.normal.ensures.same) from_is (cc))) c.add_removed.ensures;
       left = on_ok_weaker c.add_removed.result
-          (λ is. ap names_left is ∙ names_left-push actions from name) c.add_removed.ensures;
+          (λ is. ap staged_names is ∙ staged_names-push actions from name) c.add_removed.ensures;
       only = on_ok_weaker c.add_removed.result
           (λ is moves paths k l here only. subst (OnlyTheseLeave moves paths) (sym is)
           (OnlyTheseLeave-with_removed moves paths actions from name
@@ -68,7 +68,7 @@ returns c =
           (c.get.ensures.found paths move.old has c.normal.ensures.same) from_is to to_is
           (cc))) c.add_carried.ensures;
       left = on_ok_weaker c.add_carried.result
-          (λ is. ap names_left is ∙ names_left-push actions from name) c.add_carried.ensures;
+          (λ is. ap staged_names is ∙ staged_names-push actions from name) c.add_carried.ensures;
       only = on_ok_weaker c.add_carried.result
           (λ is moves paths k l here only. subst (OnlyTheseLeave moves paths) (sym is)
           (OnlyTheseLeave-with_carried moves paths actions from name to

@@ -4,9 +4,9 @@ use Rattle.std.proofs.lemmas.List.{length-map}
 use Rattle.relative_path_moves.specs.Moves.{Move, written_moves, move_at}
 use Rattle.relmove_checks.proofs.ForCallers.{EachMove-next, length-written, move_at-written}
 use Rattle.relmove_steps.specs.NewFiles.{StaysThere}
-use Rattle.relmove_steps.specs.Actions.{DoesMove, names_left, rename_texts}
+use Rattle.relmove_steps.specs.Actions.{DoesMove, staged_names, rename_texts}
 use Rattle.relmove_steps.proofs.CarryLemmas.{DoesMove-among}
-use Rattle.relmove_steps.proofs.NamesLemmas.{names_left-all, names_left-next}
+use Rattle.relmove_steps.proofs.NamesLemmas.{staged_names-all, staged_names-next}
 use Rattle.relmove_steps.proofs.OnceLemmas.{OnlyTheseLeave-more_moves, StaysThere-move, count_more, move_at-take_more}
 use Rattle.relmove_steps.specs.Directories.{LeavesTo}
 use Rattle.relmove_steps.proofs.DirectoriesLemmas.{LeavesTo-among, LeavesTo-here}
@@ -38,7 +38,7 @@ loop-number-preserved c =
           (rw (length-written moves) c.loop-number-test.true)
           (move_at-written moves k item c.loop-number-test.true is)
           (c.loop-number.invariant.only paths only);
-      left = names_left-next (names_left (rename_texts c.args.renames.now)) (names_left actions) (names_left more)
+      left = staged_names-next (staged_names (rename_texts c.args.renames.now)) (staged_names actions) (staged_names more)
           c.args.staging.now c.loop-number.number c.index-staging-number.result c.deref.result.now within
           c.index-staging-number.is c.deref.ensures c.loop-number.invariant.left c.in_ok-add_move.ensures.left;
       texts = c.in_ok-add_move.ensures.texts ∙ c.loop-number.invariant.texts;
@@ -65,7 +65,7 @@ pub returns-clause-left : goal.returns-clause-left
 returns-clause-left c =
     let count = c.requires.count in
     let last = c.loop-number-test.false in
-    names_left-all (names_left (rename_texts c.args.renames.now)) (names_left (rename_texts c.loop-number.renames))
+    staged_names-all (staged_names (rename_texts c.args.renames.now)) (staged_names (rename_texts c.loop-number.renames))
     c.args.staging.now c.loop-number.number (omega (arith, count, last)) c.loop-number.invariant.left
 
 pub returns-clause-named : goal.returns-clause-named

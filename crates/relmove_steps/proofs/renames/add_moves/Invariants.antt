@@ -3,7 +3,7 @@ use Rattle.std.proofs.Common.{◌≡◌, ◌++◌, ℕ, ◌<◌, [], List, get_o
 use Rattle.relative_path.specs.Steps.{Step}
 use Rattle.relative_path_moves.specs.Moves.{AreApart, written_moves, move_at}
 use Rattle.relative_path_places.specs.PlaceIndex.{Indexes}
-use Rattle.relmove_steps.specs.Actions.{DoesMove, LosesNothing, OnlyTheseLeave, names_left, rename_texts}
+use Rattle.relmove_steps.specs.Actions.{DoesMove, LosesNothing, OnlyTheseLeave, staged_names, rename_texts}
 use Rattle.relmove_steps.specs.NewFiles.{DoNothingYet, LeaveOnce}
 use Rattle.relmove_steps.specs.Directories.{LeavesTo}
 use Rattle.relmove_steps.proofs.renames.add_moves.Given as goal
@@ -15,8 +15,8 @@ invariant-loop-number l = record {
       → (j : ℕ) → j < l.number → DoesMove paths (rename_texts l.renames) (move_at (written_moves l.moves) j);
   only : (paths : List (List Step)) → OnlyTheseLeave (written_moves l.moves) paths (rename_texts l.fn.renames)
       → OnlyTheseLeave (written_moves l.moves) paths (rename_texts l.renames);
-  left : names_left (rename_texts l.renames)
-      ≡ names_left (rename_texts l.fn.renames) ++ map string_bytes (take l.number l.staging);
+  left : staged_names (rename_texts l.renames)
+      ≡ staged_names (rename_texts l.fn.renames) ++ map string_bytes (take l.number l.staging);
   texts : (rename_texts l.renames).texts ≡ (rename_texts l.fn.renames).texts;
   so_far : DoNothingYet (rename_texts l.fn.renames)
       → OnlyTheseLeave (take l.number (written_moves l.moves)) [] (rename_texts l.renames);

@@ -2,9 +2,9 @@
 use Rattle.std.proofs.Common.{◌++◌, ◌∷◌, [], sym, ap, subst, string_bytes, ◌∙◌}
 use Rattle.relative_path.specs.Normalizing.{IsNormalTextOf}
 use Rattle.relative_path_places.specs.PlaceIndex.{path_at}
-use Rattle.relmove_steps.specs.Actions.{LosesNothing, OnlyTheseLeave, ActionTexts, of_page, RemovesAt, names_left, old_paths, rename_texts, with_removed}
+use Rattle.relmove_steps.specs.Actions.{LosesNothing, OnlyTheseLeave, ActionTexts, of_page, RemovesAt, staged_names, old_paths, rename_texts, with_removed}
 use Rattle.relmove_steps.specs.NewFiles.{LeaveOnce, LeavesToo}
-use Rattle.relmove_steps.proofs.ActionsLemmas.{LosesNothing-with_removed, names_left-push}
+use Rattle.relmove_steps.proofs.ActionsLemmas.{LosesNothing-with_removed, staged_names-push}
 use Rattle.relmove_steps.proofs.CarryLemmas.{RemovesAt-moved, RemovesAt-with_removed, found-none}
 use Rattle.relmove_steps.proofs.NamesLemmas.{AreDrawn-next}
 use Rattle.relmove_steps.proofs.OnlyLemmas.{OnlyTheseLeave-with_removed}
@@ -33,10 +33,10 @@ returns-clause-removed c = λ moves cs has is each.
 pub returns-clause-free : goal.returns-clause-free
 returns-clause-free c = λ index drawn.
     let actions = rename_texts c.args.renames.now in
-    let left = ap names_left c.in_ok-add_removed.ensures
-    ∙ names_left-push actions (string_bytes c.into_string-from.result) c.deref.result.now in
+    let left = ap staged_names c.in_ok-add_removed.ensures
+    ∙ staged_names-push actions (string_bytes c.into_string-from.result) c.deref.result.now in
     rw (left, c.deref.ensures)
-    (AreDrawn-next index c.args.names.now c.in_root.new.self (names_left actions) _ c.in_ok-name.ensures.drawn drawn)
+    (AreDrawn-next index c.args.names.now c.in_root.new.self (staged_names actions) _ c.in_ok-name.ensures.drawn drawn)
 
 pub returns-clause-only : goal.returns-clause-only
 returns-clause-only c = λ moves paths k l is only.
@@ -73,8 +73,8 @@ pub returns-clause-files : goal.returns-clause-files
 returns-clause-files c = λ index paths files.
     let actions = rename_texts c.args.renames.now in
     let name = c.deref.result.now in
-    let left = ap names_left c.in_ok-add_removed.ensures
-    ∙ names_left-push actions (string_bytes c.into_string-from.result) name
-    ∙ ap (λ name. names_left actions ++ name ∷ []) c.deref.ensures in
+    let left = ap staged_names c.in_ok-add_removed.ensures
+    ∙ staged_names-push actions (string_bytes c.into_string-from.result) name
+    ∙ ap (λ name. staged_names actions ++ name ∷ []) c.deref.ensures in
     AreFilesDrawn-name index paths c.args.names.now c.in_root.new.self actions (rename_texts c.add_removed.new.renames) _
     c.in_ok-name.ensures.drawn (ap (λ (all : ActionTexts). all.texts) c.in_ok-add_removed.ensures) left files

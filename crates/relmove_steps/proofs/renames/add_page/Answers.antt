@@ -1,9 +1,9 @@
 -- The new text is written, the old text is removed, and the new text is carried.
 use Rattle.std.proofs.Common.{◌≡◌, ◌++◌, ◌∷◌, [], take, Contains, refl, sym, ap, subst, string_bytes, ◌∙◌, arith}
-use Rattle.relmove_steps.specs.Actions.{AreAmong, LosesNothing, OnlyTheseLeave, ActionTexts, of_text, RemovesAt, ReplacesPage, names_left, rename_texts, with_carried, with_text}
+use Rattle.relmove_steps.specs.Actions.{AreAmong, LosesNothing, OnlyTheseLeave, ActionTexts, of_text, RemovesAt, ReplacesPage, staged_names, rename_texts, with_carried, with_text}
 use Rattle.relmove_steps.specs.NewFiles.{AreFilesDrawn, LeaveOnce, StaysThere}
 use Rattle.relmove_steps.specs.StagingNames.{AreDrawn, IsDrawnIn}
-use Rattle.relmove_steps.proofs.ActionsLemmas.{LosesNothing-with_carried, names_left-push}
+use Rattle.relmove_steps.proofs.ActionsLemmas.{LosesNothing-with_carried, staged_names-push}
 use Rattle.relmove_steps.proofs.CarryLemmas.{AreAmong-page, AreAmong-with_carried, AreAmong-with_text, RemovesAt-among, RemovesMoved-among, ReplacesPage-carried, with_text-same}
 use Rattle.relmove_steps.proofs.NamesLemmas.{AreDrawn-later, AreDrawn-next}
 use Rattle.relmove_steps.proofs.OnlyLemmas.{OnlyTheseLeave-with_carried, OnlyTheseLeave-with_text}
@@ -71,14 +71,14 @@ returns-clause-free c = λ index drawn.
     let late = c.in_ok-file.ensures.drawn.late in
     let last = c.in_ok-file.ensures.drawn.last in
     let written = AreDrawn-later index c.args.names.now c.in_directory.new.self
-    (names_left before) c.in_ok-file.ensures.drawn.entries (omega (arith, late, last)) drawn in
+    (staged_names before) c.in_ok-file.ensures.drawn.entries (omega (arith, late, last)) drawn in
     let removed = c.in_ok-add_old_text.ensures.free index
-    (subst (AreDrawn index c.in_directory.new.self) (sym (ap names_left c.in_ok-add_text.ensures)) written) in
-    let left = ap names_left c.in_ok-add_carried.ensures
-    ∙ names_left-push actions (string_bytes c.in_ok-file.file) c.deref-2.result.now in
+    (subst (AreDrawn index c.in_directory.new.self) (sym (ap staged_names c.in_ok-add_text.ensures)) written) in
+    let left = ap staged_names c.in_ok-add_carried.ensures
+    ∙ staged_names-push actions (string_bytes c.in_ok-file.file) c.deref-2.result.now in
     rw (left, c.deref-2.ensures)
     (AreDrawn-next index c.add_old_text.new.names c.in_root.new.self
-    (names_left actions) _ c.in_ok-name.ensures.drawn removed)
+    (staged_names actions) _ c.in_ok-name.ensures.drawn removed)
 
 pub returns-clause-only : goal.returns-clause-only
 returns-clause-only c = λ moves paths k l here only.
@@ -116,8 +116,8 @@ returns-clause-files c = λ index paths k l here drawn files.
     c.in_ok-old.ensures.normal.normal_text (k, l, rw here c.in_ok-old.ensures.normal) drawn files in
     let removed = c.in_ok-add_old_text.ensures.files index paths
     (subst (AreFilesDrawn index paths names) (sym written_is) written) in
-    let left = ap names_left c.in_ok-add_carried.ensures ∙ names_left-push actions file c.deref-2.result.now
-    ∙ ap (λ name. names_left actions ++ name ∷ []) c.deref-2.ensures in
+    let left = ap staged_names c.in_ok-add_carried.ensures ∙ staged_names-push actions file c.deref-2.result.now
+    ∙ ap (λ name. staged_names actions ++ name ∷ []) c.deref-2.ensures in
     AreFilesDrawn-name index paths c.add_old_text.new.names c.in_root.new.self actions
     (rename_texts c.add_carried.new.renames) _ c.in_ok-name.ensures.drawn
     (ap (λ (all : ActionTexts). all.texts) c.in_ok-add_carried.ensures) left removed

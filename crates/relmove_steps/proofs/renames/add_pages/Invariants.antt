@@ -5,7 +5,7 @@ use Rattle.relative_path_moves.specs.Moves.{Move}
 use Rattle.relative_path_places.specs.PlaceIndex.{Indexes}
 use Rattle.relative_path_places.specs.declared.place_index.PlaceIndex.{PlaceIndex}
 use Rattle.relmove_checks.specs.Moves.{EachMove}
-use Rattle.relmove_steps.specs.Actions.{AreAmong, DoesMove, LosesNothing, OnlyTheseLeave, RemovesAt, ReplacesPages, WritesPages, names_left, old_paths, rename_texts}
+use Rattle.relmove_steps.specs.Actions.{AreAmong, DoesMove, LosesNothing, OnlyTheseLeave, RemovesAt, ReplacesPages, WritesPages, staged_names, old_paths, rename_texts}
 use Rattle.relmove_steps.specs.Pages.{changed_paths}
 use Rattle.relmove_steps.specs.StagingNames.{AreDrawn}
 use Rattle.relmove_steps.specs.NewFiles.{AreFilesDrawn, LeaveFromEntries, LeaveOnce}
@@ -23,9 +23,9 @@ invariant-loop-page l = record {
       (take (count_changed l.pages l.news (length l.yielded)) (changed_paths l.pages l.news));
   only : (moves : List Move) → OnlyTheseLeave moves (changed_paths l.pages l.news) (rename_texts l.fn.renames)
       → OnlyTheseLeave moves (changed_paths l.pages l.news) (rename_texts l.renames);
-  free : (index : PlaceIndex) → AreDrawn index l.fn.names (names_left (rename_texts l.fn.renames))
-      → AreDrawn index l.names (names_left (rename_texts l.renames));
-  files : (index : PlaceIndex) → AreDrawn index l.fn.names (names_left (rename_texts l.fn.renames))
+  free : (index : PlaceIndex) → AreDrawn index l.fn.names (staged_names (rename_texts l.fn.renames))
+      → AreDrawn index l.names (staged_names (rename_texts l.renames));
+  files : (index : PlaceIndex) → AreDrawn index l.fn.names (staged_names (rename_texts l.fn.renames))
       → AreFilesDrawn index (changed_paths l.pages l.news) l.fn.names (rename_texts l.fn.renames)
       → AreFilesDrawn index (changed_paths l.pages l.news) l.names (rename_texts l.renames);
   texts : (rename_texts l.fn.renames).texts ≡ []
@@ -36,7 +36,7 @@ invariant-loop-page l = record {
       (take (count_changed l.pages l.news (length l.yielded)) (changed_paths l.pages l.news)) (rename_texts l.renames);
   once : (index : PlaceIndex) (entries : List (List Step)) (moves : List Move) → Indexes entries index
       → Indexes (old_paths moves) l.olds → LeaveFromEntries entries moves (changed_paths l.pages l.news)
-      → AreDrawn index l.fn.names (names_left (rename_texts l.fn.renames))
+      → AreDrawn index l.fn.names (staged_names (rename_texts l.fn.renames))
       → AreFilesDrawn index (changed_paths l.pages l.news) l.fn.names (rename_texts l.fn.renames)
       → OnlyTheseLeave moves [] (rename_texts l.fn.renames) → LeaveOnce (rename_texts l.fn.renames)
       → LeaveOnce (rename_texts l.renames);
