@@ -1,5 +1,5 @@
 -- Texts that differ, and that an index all has, are no more than its entries.
-use Rattle.std.proofs.Common.{Bool, true, false, true≢false, ◌||◌, cond, Decides, ◌≡◌, ◌≢◌, ℕ, zero, suc, ◌<◌, ◌≤◌, List, [], ◌∷◌, Some, IsSome, String, Global, length, string_bytes, bytes_eq, nat_cmp, refl, sym, ap, ap₂, subst, ◌∙◌, arith}
+use Rattle.std.proofs.Common.{Bool, true, false, true≢false, ◌||◌, cond, Decides, ◌≡◌, ◌≢◌, ℕ, zero, suc, ◌<◌, ◌≤◌, List, [], ◌∷◌, Some, IsSome, String, Global, length, string_bytes, bytes_eq, nat_cmp, refl, sym, ap, ap₂, subst, arith}
 use Rattle.std.specs.BTreeMap.{is_at}
 use Rattle.std.specs.Cmp.Lexicographic.{slice_cmp}
 use Rattle.std.specs.List.{AllByRecursion, IsDistinct, list_any}

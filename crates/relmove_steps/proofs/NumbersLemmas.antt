@@ -28,9 +28,6 @@ digits_small n =
 
 -- ---- the next number
 
-pub IsCarried-first : (digits : List ℕ) → AreDigits digits → IsCarried (number_of digits) digits [] 1
-IsCarried-first digits are = record { small = omega arith; rest = number_of digits; left_is = are; made_is = refl }
-
 -- the digit that is next, and the others
 IsCarried-digit : (n digit carry : ℕ) (left made : List ℕ) (is : IsCarried n (digit ∷ left) made carry)
     → (0 < is.rest) × (digit ≡ is.rest % 10) × (left ≡ units_first (is.rest / 10))

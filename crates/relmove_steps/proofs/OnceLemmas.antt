@@ -1,5 +1,5 @@
 -- Nothing leaves the same path twice.
-use Rattle.std.proofs.Common.{All, AllPairs, Contains, IsPermutation, ◌≡◌, ◌≢◌, ◌⊎◌, ℕ, ◌<◌, ◌≤◌, ◌+◌, ◌^◌, List, [], ◌∷◌, ◌++◌, inl, inr, length, map, take, refl, sym, subst, ◌∙◌, get_or-take, arith}
+use Rattle.std.proofs.Common.{All, AllPairs, Contains, IsPermutation, ◌≡◌, ◌≢◌, ◌⊎◌, ℕ, ◌<◌, ◌+◌, List, [], ◌∷◌, ◌++◌, inl, inr, length, map, take, refl, sym, subst, ◌∙◌, get_or-take, arith}
 use Rattle.std.specs.Str.{bytes_eq}
 use Rattle.std.proofs.lemmas.List.{get_or-map, length-map, length-take-le}
 use Rattle.std.proofs.lemmas.List.Elements.{All-contains, All-contains_itself, All-push, All-weaker}
