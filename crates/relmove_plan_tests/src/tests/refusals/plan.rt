@@ -41,8 +41,8 @@ fn planned<'a>(alloc: Global, text: &str, new: &'a str) -> Result<Result<Plan<'a
 }
 
 // Requests: 4 488 1 6 80 2s 6 2s 6 6 488 6 488 72 4 1 7 4 488 1 6 80 11 96 648 64 96 96 1s 4 88 6 6 2s 6 7 7 6 11 11
-// 96 648 64 96 96 1s 1s 9 18 1s 10 4 488 6 6 10 192 10 192 4 9 18 1s 10 4 10 11 288 9 18 1s 10 10 10 96 9 18 1s 10 4
-// 10 10 144 80 6 1s 10 6 488 64 1 368 1s 1s 1 96 64 1 368 7 1s = 33
+// 96 648 64 96 96 1s 1s 8 9 18 1s 10 4 488 6 6 10 192 10 192 4 1 9 18 1s 10 4 10 11 288 1 9 18 1s 10 10 10 96 1 9 18
+// 1s 10 4 10 10 144 80 6 1s 10 6 488 64 1 368 1s 1s 1 96 64 1 368 7 1s = 33
 #[test]
 fn a_plan_with_a_page_that_changes(rt: HostRuntime) -> Result<(), Fail> {
     match planned(rt.alloc(), "[b](d/b.md)", "e/b.md")? {
