@@ -5,6 +5,7 @@
 //!
 //! ```text
 //! what is in the pages    dead_links  mentions
+//! what a page can mean    bases  words
 //! what is at a path       presence  seen
 //! what is below the root  tree
 //! what all share          position
@@ -26,9 +27,11 @@ pub use self::tree::{
     normal_text, read_tree,
 };
 
+mod bases;
 mod dead_links;
 mod mentions;
 mod position;
 mod presence;
 mod seen;
 mod tree;
+mod words;

@@ -5,9 +5,10 @@ use Rattle.std.specs.BTreeSet.{contains_text}
 use Rattle.std.specs.List.{Contains}
 use Rattle.std.specs.Map.{update}
 use Rattle.std.specs.Str.{bytes_eq}
-use Rattle.std.proofs.lemmas.List.{flat_map_more, map-append, map_more, take_all}
+use Rattle.std.proofs.lemmas.List.{flat_map_more, length-map, map-append, map_more, take_all}
+use Rattle.std.proofs.Math.ListN.{get_or-map}
 use Rattle.std.proofs.lemmas.List.Sums.{fold-append}
-use Rattle.std.proofs.lemmas.List.Elements.{Contains-append_left, Contains-append_right, Contains-append_cases, Contains-push, Contains-push_cases}
+use Rattle.std.proofs.lemmas.List.Elements.{Contains-append_left, Contains-append_right, Contains-append_cases, Contains-get_or, Contains-push, Contains-push_cases}
 use Rattle.std.proofs.lemmas.Option.{same_Some}
 use Rattle.std.proofs.lemmas.Slice.Eq.{bytes_eq-Decides}
 use Rattle.relative_path.specs.Steps.{Step, classed, components, dot, name as named}
@@ -15,14 +16,17 @@ use Rattle.relative_path.specs.Editing.{kept}
 use Rattle.relative_path.specs.Naming.{file_name_of, stem_of}
 use Rattle.relative_path.specs.Walk.{IsSame}
 use Rattle.relative_path.specs.Normalizing.{IsNormalTextOf}
+use Rattle.relative_path.specs.RelativePath.{path_components}
+use Rattle.relative_path.specs.declared.path.RelativePath.{RelativePath}
 use Rattle.relative_path.proofs.ForCallers.{IsSame-append_left, IsSame-last_name, IsSame-sym, IsSame-trans, last_name-IsNormalTextOf, last_name-name}
 use Rattle.relative_path_places.proofs.ForCallers.{IsNormalTextOf-same}
 use Rattle.relative_path_places.specs.Views.{view_text}
 use Rattle.relative_path_places.specs.declared.normal_view.NormalView.{NormalView}
-use Rattle.relmove_mentions.specs.Names.{is_page, most_others, names_of, page_names}
+use Rattle.relmove_mentions.specs.Names.{directory_names, index_names, is_index_page, is_page, most_others, names_of, page_names}
 use Rattle.relmove_mentions.specs.Spans.{others_in}
 use Rattle.relmove_mentions.specs.OldNames.{Lists, Has, Finds, with_names, all_names}
-use Rattle.relmove_mentions.specs.Written.{LeadsToPath, StandsFor}
+use Rattle.relmove_mentions.specs.Written.{LeadsFrom, LeadsToPath, StandsFor}
+use Rattle.relmove_mentions.specs.declared.file_text.FileText.{FileText}
 use Rattle.relmove_mentions.specs.declared.old_names.OldNames.{OldNames}
 
 -- ---- an insertion
@@ -208,6 +212,25 @@ Lists-page names old directory html bare (Some n) set page is_html is_bare lists
   of true is = both
   of false is = absurd (true≢false (sym is))
 
+-- the further names of a page for which its directory can stand
+pub Lists-index : (names : List PathName) (old : List ℕ) (directory html : List Step) (file_name : Option (List ℕ))
+    (set : OldNames) → is_index_page file_name ≡ true → html ≡ directory ++ named (codes "index.html") ∷ []
+    → Lists ((names ++ (old, html) ∷ []) ++ with_names old (directory_names directory)) set
+    → Lists (names ++ with_names old (index_names directory file_name)) set
+Lists-index names old directory html file_name set page is_html lists = of (is_index_page file_name) page where
+  both : List (List Step)
+  both = (directory ++ named (codes "index.html") ∷ []) ∷ directory_names directory
+
+  listed : Lists (names ++ with_names old both) set
+  listed =
+      subst (λ h. Lists (names ++ with_names old (h ∷ directory_names directory)) set) is_html
+      (subst (λ list. Lists list set)
+      (append_assoc {A = PathName} names ((old, html) ∷ []) (with_names old (directory_names directory))) lists)
+
+  of : (b : Bool) → b ≡ true → Lists (names ++ with_names old (cond b both [])) set
+  of true is = listed
+  of false is = absurd (true≢false (sym is))
+
 -- the names of a path, one after another
 pub Lists-together : (names : List PathName) (old : List ℕ) (one path : List Step) (pages index : List (List Step))
     (set : OldNames) → one ≡ path
@@ -286,24 +309,64 @@ Finds-get olds set cs text None has normal is = λ old is_old leads.
     absurd (true≢false (sym (subst IsSome (sym is) (has.lists.each old leads.name text listed of))))
 
 -- a text whose last name the set lacks stands for no old path
-pub StandsFor-no_last : (olds : List (List ℕ)) (set : OldNames) (directory : List Step) (text n old : List ℕ) → Has olds set
+pub StandsFor-no_last : (olds : List (List ℕ)) (set : OldNames) (file : FileText) (text n old : List ℕ) → Has olds set
     → Contains olds old → file_name_of text ≡ Some n → contains_text set.last_names n ≡ false
-    → StandsFor directory text old → ⊥
-StandsFor-no_last olds set directory text n old has is_old is none stands = elim stands.leads [
-  | inl (below, leads) ↦
-      no leads (directory ++ kept (components text))
-      (IsSame-trans (IsSame-sym (subst (IsSame (directory ++ components text))
-      (sym (append_assoc directory (kept (components text)) (named n ∷ [])))
-      (IsSame-append_left directory ends))) leads.same)
-  | inr (some, leads) ↦ no leads (kept (components text)) (IsSame-trans (IsSame-sym ends) leads.same)
+    → StandsFor file text old → ⊥
+StandsFor-no_last olds set file text n old has is_old is none stands = elim stands.leads [
+  | inl (below, from) ↦ no from.directory from.leads
+  | inr (some, from) ↦ no from.directory from.leads
 ] where
   ends : IsSame (components text) (kept (components text) ++ named n ∷ [])
   ends = IsSame-last_name (components text) n is
 
-  no : {cs : List Step} → (leads : LeadsToPath cs old) → (front : List Step) → IsSame (front ++ named n ∷ []) leads.name → ⊥
-  no leads front same =
-      true≢false
-      (sym (has.lists.last old leads.name front n (all_names-Contains olds old leads.name is_old leads.is_name) same) ∙ none)
+  no : (directory : List Step) → LeadsToPath (directory ++ components text) old → ⊥
+  no directory leads =
+      let same : IsSame ((directory ++ kept (components text)) ++ named n ∷ []) leads.name =
+      IsSame-trans (IsSame-sym (subst (IsSame (directory ++ components text))
+      (sym (append_assoc directory (kept (components text)) (named n ∷ [])))
+      (IsSame-append_left directory ends))) leads.same in
+      let listed = all_names-Contains olds old leads.name is_old leads.is_name in
+      true≢false (sym (has.lists.last old leads.name (directory ++ kept (components text)) n listed same) ∙ none)
+
+-- ---- a search from one directory after another
+
+-- from no directory a path leads
+pub LeadsFrom-nil : (cs : List Step) (old : List ℕ) → LeadsFrom [] cs old → ⊥
+LeadsFrom-nil cs old from = no from.is_one where
+  no : Contains {X = List Step} [] from.directory → ⊥
+  no (k, within, is) = omega (arith, within)
+
+-- what it leads to from one of them, it leads to from them
+pub LeadsFrom-one : (directories : List RelativePath) (i : ℕ) (directory : RelativePath) (cs : List Step) (old : List ℕ)
+    → i < length directories → directory ≡ get_or directories i directory
+    → LeadsToPath (path_components directory ++ cs) old → LeadsFrom (map path_components directories) cs old
+LeadsFrom-one directories i directory cs old within is leads = record {
+  directory = path_components directory;
+  is_one =
+      subst (Contains (map path_components directories))
+      (get_or-map path_components directories i directory ∙ ap path_components (sym is))
+      (Contains-get_or (map path_components directories) i (path_components directory)
+      (omega (arith, within, length-map directories path_components)));
+  leads = leads;
+}
+
+-- what it leads to from these directories and the next one, it leads to from these or from that
+pub LeadsFrom-next : (directories : List RelativePath) (i : ℕ) (directory : RelativePath) (cs : List Step) (old : List ℕ)
+    → i < length directories → directory ≡ get_or directories i directory
+    → LeadsFrom (map path_components (take (i + 1) directories)) cs old
+    → LeadsFrom (map path_components (take i directories)) cs old ⊎ LeadsToPath (path_components directory ++ cs) old
+LeadsFrom-next directories i directory cs old within is from =
+    elim (Contains-push_cases (map path_components (take i directories)) (path_components directory) from.directory
+    (subst (λ list. Contains list from.directory) next from.is_one)) [
+      | inl before ↦ inl (record { directory = from.directory; is_one = before; leads = from.leads })
+      | inr same ↦ inr (subst (λ d. LeadsToPath (d ++ cs) old) (sym same) from.leads)
+    ]
+  where
+    next : map path_components (take (i + 1) directories)
+        ≡ map path_components (take i directories) ++ path_components directory ∷ []
+    next =
+        map_more path_components directories i directory within
+        ∙ ap (λ d. map path_components (take i directories) ++ path_components d ∷ []) (sym is)
 
 -- what is found for a property is found for one that holds of the same paths
 pub Finds-map : (olds : List (List ℕ)) (P Q : List ℕ → Type 0) (found : Option NormalView)

@@ -5,20 +5,20 @@ use Rattle.std.specs.Str.{IsUtf8}
 use Rattle.std.proofs.lemmas.Bool.{eqb-false}
 use Rattle.percent_encoding.specs.Percent.{percent_decode, percent_sign}
 use Rattle.percent_encoding.proofs.PercentLemmas.{percent_decode-nil, percent_decode_not_percent}
-use Rattle.relative_path.specs.Steps.{Step}
 use Rattle.relative_path.specs.Naming.{file_name_of}
 use Rattle.relative_path_places.specs.declared.normal_view.NormalView.{NormalView}
 use Rattle.relmove_mentions.specs.OldNames.{Finds}
 use Rattle.relmove_mentions.specs.Written.{IsWritten, LeadsFromDirectory, LeadsFromTop, StandsFor}
+use Rattle.relmove_mentions.specs.declared.file_text.FileText.{FileText}
 use Rattle.relmove_mentions.proofs.OldNamesLemmas.{Finds-map, Finds-second}
 
 -- a text that ends in a name stands for the path to which it leads
-pub Finds-text : (olds : List (List ℕ)) (directory : List Step) (text : List ℕ) (found : Option NormalView) → IsUtf8 text
+pub Finds-text : (olds : List (List ℕ)) (file : FileText) (text : List ℕ) (found : Option NormalView) → IsUtf8 text
     → IsSome (file_name_of text)
-    → Finds olds (λ old. LeadsFromDirectory directory text old ⊎ LeadsFromTop text old) found
-    → Finds olds (StandsFor directory text) found
-Finds-text olds directory text found utf8 named finds =
-    Finds-map olds (λ old. LeadsFromDirectory directory text old ⊎ LeadsFromTop text old) (StandsFor directory text) found
+    → Finds olds (λ old. LeadsFromDirectory file text old ⊎ LeadsFromTop file text old) found
+    → Finds olds (StandsFor file text) found
+Finds-text olds file text found utf8 named finds =
+    Finds-map olds (λ old. LeadsFromDirectory file text old ⊎ LeadsFromTop file text old) (StandsFor file text) found
     (λ old is_old leads. record { utf8 = utf8; named = named; leads = leads }) (λ old stands. stands.leads) finds
 
 -- bytes without a percent sign are decoded to themselves
@@ -33,9 +33,9 @@ percent_decode-plain (b ∷ bytes) none = of (b == percent_sign) refl none (λ r
       percent_decode_not_percent b bytes (λ e. eqb-false b percent_sign is e) ∙ ap (λ rest. b ∷ rest) (others none)
 
 -- so if nothing is found for these bytes as they are, nothing is found
-pub Finds-plain : (olds : List (List ℕ)) (directory : List Step) (bytes : List ℕ)
-    → list_any (λ b. b == percent_sign) bytes ≡ false → Finds olds (StandsFor directory bytes) None
-    → Finds olds (IsWritten directory bytes) None
-Finds-plain olds directory bytes none finds =
-    Finds-second olds (StandsFor directory bytes) (StandsFor directory (percent_decode bytes)) None finds
-    (subst (λ text. Finds olds (StandsFor directory text) None) (sym (percent_decode-plain bytes none)) finds)
+pub Finds-plain : (olds : List (List ℕ)) (file : FileText) (bytes : List ℕ)
+    → list_any (λ b. b == percent_sign) bytes ≡ false → Finds olds (StandsFor file bytes) None
+    → Finds olds (IsWritten file bytes) None
+Finds-plain olds file bytes none finds =
+    Finds-second olds (StandsFor file bytes) (StandsFor file (percent_decode bytes)) None finds
+    (subst (λ text. Finds olds (StandsFor file text) None) (sym (percent_decode-plain bytes none)) finds)

@@ -1,7 +1,6 @@
 -- The mentions of old paths in a file.
 use Rattle.std.specs.Prelude.{◌≤◌, ℕ, List, map}
 use Rattle.std.specs.List.{All, AllPairs, Contains}
-use Rattle.relative_path.specs.RelativePath.{path_components}
 use Rattle.relmove_mentions.specs.Names.{most_others}
 use Rattle.relative_path_places.specs.Views.{view_text}
 use Rattle.relmove_mentions.specs.Spans.{others_in, span_bytes, ComesBefore, IsApartFrom, IsBounded, IsEarlier}
@@ -17,7 +16,7 @@ pub record IsMention (olds : List (List ℕ)) (file : FileText) (span : TextSpan
   pub bounded : IsBounded file.text.now span
   pub few : others_in (span_bytes file.text.now span) ≤ most_others olds
   pub unread : IsApartFrom file.read.now span
-  pub written : IsWritten (path_components file.directory) (span_bytes file.text.now span) old
+  pub written : IsWritten file (span_bytes file.text.now span) old
 
 -- the spans of mentions
 abbrev pub spans_of : List Mention → List TextSpan

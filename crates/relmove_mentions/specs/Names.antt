@@ -41,11 +41,16 @@ page_names directory (Some n) =
     then (directory ++ name (stem_of n ++ dot ∷ codes "html") ∷ []) ∷ (directory ++ classed (stem_of n) ∷ []) ∷ []
     else []
 
--- in a directory, the further name of a file for which the directory can stand: the directory, unless it is the top
-abbrev pub index_names : List Step → Option (List ℕ) → List (List Step)
-index_names directory file_name = if is_index_page file_name && has_steps directory then directory ∷ [] else []
+-- the directory, unless it is the top
+abbrev pub directory_names : List Step → List (List Step)
+directory_names directory = if has_steps directory then directory ∷ [] else []
 
--- the names of a path: itself, those of a page, and that of a page for which its directory can stand
+-- in a directory, the further names of a page for which the directory can stand: its `index.html`, and the directory
+abbrev pub index_names : List Step → Option (List ℕ) → List (List Step)
+index_names directory file_name =
+    if is_index_page file_name then (directory ++ name (codes "index.html") ∷ []) ∷ directory_names directory else []
+
+-- the names of a path: itself, those of a page, and those of a page for which its directory can stand
 abbrev pub names_of : List ℕ → List (List Step)
 names_of old = components old ∷ page_names (kept (components old)) (file_name_of old)
     ++ index_names (kept (components old)) (file_name_of old)

@@ -1,5 +1,5 @@
 -- Spans of a text at which a path can be written.
-use Rattle.std.specs.Prelude.{◌≡◌, ◌⊎◌, ℕ, ◌<◌, ◌≤◌, ◌-◌, Bool, not, ◌==◌, ◌||◌, nat_lt, nat_le, List, [], ◌∷◌, length, take, drop, slice_index, IsTrue, ⊤}
+use Rattle.std.specs.Prelude.{◌≡◌, ◌⊎◌, ℕ, ◌<◌, ◌≤◌, ◌+◌, ◌-◌, Bool, not, ◌==◌, ◌||◌, ◌&&◌, nat_lt, nat_le, List, [], ◌∷◌, length, take, drop, slice_index, IsTrue, ⊤}
 use Rattle.std.specs.Char.{is_ascii_alphanumeric}
 use Rattle.std.specs.List.{count_by, list_all}
 use Rattle.relmove_mentions.specs.declared.text_span.TextSpan.{TextSpan}
@@ -20,9 +20,14 @@ others_in text = count_by is_other_byte text
 abbrev pub is_bounded_before : List ℕ → ℕ → Bool
 is_bounded_before text start = start == 0 || is_other_byte (slice_index text (start - 1))
 
--- no path goes on across this offset to the byte after it
+-- no path goes on with the byte at this offset
+abbrev pub is_bounded_at : List ℕ → ℕ → Bool
+is_bounded_at text end = nat_le (length text) end || is_other_byte (slice_index text end)
+
+-- no path goes on across this offset to the byte after it, or that byte is a full stop with which none goes on
 abbrev pub is_bounded_after : List ℕ → ℕ → Bool
-is_bounded_after text end = nat_le (length text) end || is_other_byte (slice_index text end)
+is_bounded_after text end =
+    is_bounded_at text end || (slice_index text end == 46 && is_bounded_at text (end + 1))
 
 -- the span has a byte, and no path goes on across its ends
 pub record IsBounded (text : List ℕ) (span : TextSpan) : Type 0 where

@@ -1,5 +1,5 @@
 //! The mentions of old paths in a text.
-ghost use Rattle.std.specs.Prelude.{◌≡◌, ◌≤◌, ◌<◌, ◌+◌, ◌==◌, ℕ, List, IfNone, IfOk, IfSome, OnOk, drop, false, length, if◌then◌else◌, IsTrue};
+ghost use Rattle.std.specs.Prelude.{◌≡◌, ◌≤◌, ◌<◌, ◌+◌, ◌++◌, ◌==◌, ℕ, List, IfNone, IfOk, IfSome, OnOk, drop, false, length, map, if◌then◌else◌, IsTrue};
 ghost use Rattle.std.specs.List.{All, AllPairs, Contains, list_all, list_any};
 ghost use Rattle.percent_encoding.specs.Percent.{percent_sign};
 ghost use Rattle.relative_path.specs.Unix.{has_root};
@@ -20,8 +20,10 @@ ghost use Rattle.relmove_mentions.specs.Spans.{
 };
 ghost use Rattle.relmove_mentions.specs.Written.{
   IsWritten,
+  LeadsFrom,
   LeadsFromDirectory,
   LeadsFromTop,
+  LeadsToPath,
   StandsFor,
   has_directory,
 };
@@ -48,24 +50,25 @@ impl<'p> OldNames<'p> {
     /// Returns where a file mentions an old path: in the order of the starts, and at one start in the order of the ends.
     ///
     /// A mention is a span of the text that is a [name](OldNames::of) of the path, as it is or percent-encoded. The name
-    /// leads from the directory of the file, or from the root. From the root a name without a directory before it
-    /// counts only after a slash, and a path that ends in `.` or `..` is no name.
+    /// leads from a directory of the file, or from a top. From a top a name without a directory before it counts only
+    /// after a slash, and a path that ends in `.` or `..` is no name.
     ///
     /// Right before and after a mention the text ends, or has a byte that isn't an ASCII letter or digit, `%`, `-`,
-    /// `.`, `/`, `_` or above 127. A mention has at most as many such bytes as an old path. What was read has
-    /// no byte of a mention.
+    /// `.`, `/`, `_` or above 127; after it can also be a full stop, and then such an end. A mention has at most as many
+    /// such bytes as an old path. What was read has no byte of a mention.
     ///
     /// Time is linear in the text, and grows with the square of that number. Allocates the list of mentions; for each
-    /// span with a percent sign the decoded bytes; and for each that ends in the last name of a name, once or twice
-    /// what `join_normalized` does. Fails only if an allocation fails.
+    /// span with a percent sign the decoded bytes; and for each that ends in the last name of a name, what
+    /// `join_normalized` does, for each directory and each top at most twice. Fails only if an allocation fails.
     ///
     /// ```
     /// let paths = [NormalPath::of(alloc, RelativePath::new("my docs/a.md"))?];
     /// let names = OldNames::of(alloc, &[paths[0].view()])?;
-    /// let file = FileText { directory: RelativePath::new(""), text: b"my docs/a, my%20docs/a.html", read: &[] };
+    /// let [top, docs] = ["", "my docs"].map(|path| RelativePath::new(path));
+    /// let file = FileText { directories: &[top], tops: &[docs], text: b"my%20docs/a.html, /a/", read: &[] };
     /// let mentions = names.mentions(alloc, file)?;
     /// assert_eq!(rt; mentions.len(), 2);
-    /// assert_eq!(rt; mentions[1].span, TextSpan { start: 11, end: 27 });
+    /// assert_eq!(rt; mentions[1].span, TextSpan { start: 18, end: 21 });
     /// ```
     pub fn mentions(
         &self,
@@ -200,20 +203,20 @@ impl<'p> OldNames<'p> {
         if !is_unread(file.read, passed, span) {
             return Ok(None);
         }
-        self.find(alloc, file.directory, &file.text[span.start..span.end])
+        self.find(alloc, file, &file.text[span.start..span.end])
     }
 
     // Returns an old path that bytes write.
     fn find(
         &self,
         alloc: Global,
-        directory: RelativePath<'_>,
+        file: FileText<'_>,
         bytes: &[u8],
     ) -> Result<Option<NormalView<'p>>, AllocError>
         ensures { IfOk result (λ found. (olds : List (List ℕ)) → Has olds self.now
-            → Finds olds (IsWritten (path_components directory.entry) bytes.now) found) }
+            → Finds olds (IsWritten file.entry bytes.now) found) }
     {
-        if let Some(old) = self.find_text(alloc, directory, bytes)? {
+        if let Some(old) = self.find_text(alloc, file, bytes)? {
             return Ok(Some(old));
         }
         if !has_percent(bytes) {
@@ -221,18 +224,18 @@ impl<'p> OldNames<'p> {
         }
         let mut text = Vec::new(alloc);
         percent_decode(bytes).append_to(&mut text)?;
-        self.find_text(alloc, directory, text.as_slice())
+        self.find_text(alloc, file, text.as_slice())
     }
 
     // Returns an old path for which a text stands.
     fn find_text(
         &self,
         alloc: Global,
-        directory: RelativePath<'_>,
+        file: FileText<'_>,
         text: &[u8],
     ) -> Result<Option<NormalView<'p>>, AllocError>
         ensures { IfOk result (λ found. (olds : List (List ℕ)) → Has olds self.now
-            → Finds olds (StandsFor (path_components directory.entry) text.now) found) }
+            → Finds olds (StandsFor file.entry text.now) found) }
     {
         let Ok(text) = str::from_utf8(text) else {
             return Ok(None);
@@ -244,42 +247,73 @@ impl<'p> OldNames<'p> {
         if !self.has_last_name(last) {
             return Ok(None);
         }
-        if let Some(old) = self.find_from_directory(alloc, directory, path)? {
+        if let Some(old) = self.find_from_directory(alloc, file, path)? {
             return Ok(Some(old));
         }
-        self.find_from_top(alloc, path)
+        self.find_from_top(alloc, file, path)
     }
 
-    // Returns an old path to which a path leads from a directory.
+    // Returns an old path to which a path leads from a directory of a file.
     fn find_from_directory(
+        &self,
+        alloc: Global,
+        file: FileText<'_>,
+        path: RelativePath<'_>,
+    ) -> Result<Option<NormalView<'p>>, AllocError>
+        ensures { IfOk result (λ found. (olds : List (List ℕ)) → Has olds self.now
+            → Finds olds (LeadsFromDirectory file.entry (path_text path.entry)) found) }
+    {
+        if has_root(path) {
+            return Ok(None);
+        }
+        self.find_from(alloc, file.directories, path)
+    }
+
+    // Returns an old path to which a path leads from a top.
+    fn find_from_top(
+        &self,
+        alloc: Global,
+        file: FileText<'_>,
+        path: RelativePath<'_>,
+    ) -> Result<Option<NormalView<'p>>, AllocError>
+        ensures { IfOk result (λ found. (olds : List (List ℕ)) → Has olds self.now
+            → Finds olds (LeadsFromTop file.entry (path_text path.entry)) found) }
+    {
+        if !has_directory(path) {
+            return Ok(None);
+        }
+        self.find_from(alloc, file.tops, path)
+    }
+
+    // Returns an old path to which a path leads from one of these directories.
+    fn find_from(
+        &self,
+        alloc: Global,
+        directories: &[RelativePath<'_>],
+        path: RelativePath<'_>,
+    ) -> Result<Option<NormalView<'p>>, AllocError>
+        ensures { IfOk result (λ found. (olds : List (List ℕ)) → Has olds self.now
+            → Finds olds (LeadsFrom (map path_components directories.now) (path_components path.entry)) found) }
+    {
+        for directory in directories {
+            if let Some(old) = self.find_joined(alloc, *directory, path)? {
+                return Ok(Some(old));
+            }
+        }
+        Ok(None)
+    }
+
+    // Returns an old path to which a directory and then a path lead.
+    fn find_joined(
         &self,
         alloc: Global,
         directory: RelativePath<'_>,
         path: RelativePath<'_>,
     ) -> Result<Option<NormalView<'p>>, AllocError>
         ensures { IfOk result (λ found. (olds : List (List ℕ)) → Has olds self.now
-            → Finds olds (LeadsFromDirectory (path_components directory.entry) (path_text path.entry)) found) }
+            → Finds olds (LeadsToPath (path_components directory.entry ++ path_components path.entry)) found) }
     {
-        if has_root(path) {
-            return Ok(None);
-        }
         let place = directory.join_normalized(alloc, path)?;
-        Ok(self.get(place.as_relative_path().as_str()))
-    }
-
-    // Returns an old path to which a path leads from the top.
-    fn find_from_top(
-        &self,
-        alloc: Global,
-        path: RelativePath<'_>,
-    ) -> Result<Option<NormalView<'p>>, AllocError>
-        ensures { IfOk result (λ found. (olds : List (List ℕ)) → Has olds self.now
-            → Finds olds (LeadsFromTop (path_text path.entry)) found) }
-    {
-        if !has_directory(path) {
-            return Ok(None);
-        }
-        let place = path.normalize(alloc)?;
         Ok(self.get(place.as_relative_path().as_str()))
     }
 }

@@ -9,6 +9,7 @@ ghost use Rattle.relative_path.specs.RelativePath.{path_components, path_text};
 ghost use Rattle.relative_path.specs.Steps.{Step, components};
 ghost use Rattle.relative_path_places.specs.Views.{view_text};
 ghost use Rattle.relmove_mentions.specs.Names.{
+  directory_names,
   index_names,
   is_index_page,
   is_page,
@@ -30,7 +31,8 @@ use std::collections::{BTreeMap, BTreeSet};
 /// ```
 /// let page = NormalPath::of(alloc, RelativePath::new("docs/setup.md"))?;
 /// let names = OldNames::of(alloc, &[page.view()])?;
-/// let file = FileText { directory: RelativePath::new(""), text: b"see docs/setup.html", read: &[] };
+/// let top = RelativePath::new("");
+/// let file = FileText { directories: &[], tops: &[top], text: b"see docs/setup.html", read: &[] };
 /// let mentions = names.mentions(alloc, file)?;
 /// assert_eq!(rt; mentions[0].span, TextSpan { start: 4, end: 19 });
 /// assert_eq!(rt; mentions[0].path.as_relative_path().as_str(), "docs/setup.md");
@@ -46,8 +48,8 @@ impl<'p> OldNames<'p> {
     /// Returns the names of old paths. If several paths have one name, the name stands for the first of them.
     ///
     /// A path has these names: itself; as a page, which has the extension `md` or `markdown` in any case, the path with
-    /// the extension `html`, and without an extension; and as `README.md`, `index.md` or `_index.md` its directory,
-    /// unless that is the root.
+    /// the extension `html`, and without an extension; and as `README.md`, `index.md` or `_index.md` its directory's
+    /// `index.html`, and its directory, unless that is the root.
     ///
     /// Allocates a copy of each name and of its last name, and entries for those that are new. Fails only if an
     /// allocation fails.
@@ -55,8 +57,9 @@ impl<'p> OldNames<'p> {
     /// ```
     /// let pages = [NormalPath::of(alloc, RelativePath::new("docs/README.md"))?];
     /// let names = OldNames::of(alloc, &[pages[0].view()])?;
-    /// let file = FileText { directory: RelativePath::new("a"), text: b"/docs/", read: &[] };
-    /// assert_eq!(rt; names.mentions(alloc, file)?.len(), 1);
+    /// let top = RelativePath::new("");
+    /// let file = FileText { directories: &[], tops: &[top], text: b"/docs/, /docs/index.html", read: &[] };
+    /// assert_eq!(rt; names.mentions(alloc, file)?.len(), 2);
     /// ```
     pub fn of(alloc: Global, olds: &[NormalView<'p>]) -> Result<OldNames<'p>, AllocError>
         ensures { IfOk result (Has (map view_text olds.now)) }
@@ -110,7 +113,7 @@ impl<'p> OldNames<'p> {
         Ok(())
     }
 
-    // Inserts the directory of a page for which its directory can stand.
+    // Inserts the further names of a page for which its directory can stand.
     fn insert_index_names(&mut self, alloc: Global, old: NormalView<'p>) -> Result<(), AllocError>
         ensures lists { OnOk result ((names : List (List ℕ × List Step)) → Lists names self.old
             → Lists (names ++ with_names (view_text old.entry) (index_names (kept (components (view_text old.entry)))
@@ -122,6 +125,23 @@ impl<'p> OldNames<'p> {
             return Ok(());
         }
         let directory = directory(path);
+        let html = directory.join(alloc, RelativePath::new("index.html"))?;
+        self.insert(alloc, html.as_relative_path(), old)?;
+        self.insert_directory(alloc, directory, old)
+    }
+
+    // Inserts a directory, unless it is the root.
+    fn insert_directory(
+        &mut self,
+        alloc: Global,
+        directory: RelativePath<'_>,
+        old: NormalView<'p>,
+    ) -> Result<(), AllocError>
+        ensures lists { OnOk result ((names : List (List ℕ × List Step)) → Lists names self.old
+            → Lists (names ++ with_names (view_text old.entry) (directory_names (path_components directory.entry)))
+            self.new) }
+        ensures most { self.new.most_others ≡ self.old.most_others }
+    {
         if directory.components().next().is_none() {
             return Ok(());
         }

@@ -3,6 +3,7 @@ ghost use Rattle.std.specs.Prelude.{◌≡◌, ◌≤◌, ◌↔◌, IsTrue, len
 ghost use Rattle.relmove_mentions.specs.Spans.{
   FollowFrom,
   is_bounded_after,
+  is_bounded_at,
   is_bounded_before,
   is_path_byte,
   others_in,
@@ -75,10 +76,18 @@ pub(crate) fn is_bounded_before(text: &[u8], start: usize) -> bool
     start == 0 || !is_path_byte(text[start - 1])
 }
 
-// Returns whether the byte at an offset, if there is one, isn't a path byte.
+// Returns whether the byte at an offset, if there is one, isn't a path byte, or is a full stop before such an end.
 #[inline]
 pub(crate) fn is_bounded_after(text: &[u8], end: usize) -> bool
     ensures { result ≡ is_bounded_after text.now end }
+{
+    is_bounded_at(text, end) || (text[end] == b'.' && is_bounded_at(text, end + 1))
+}
+
+// Returns whether the byte at an offset, if there is one, isn't a path byte.
+#[inline]
+fn is_bounded_at(text: &[u8], end: usize) -> bool
+    ensures { result ≡ is_bounded_at text.now end }
 {
     text.len() <= end || !is_path_byte(text[end])
 }

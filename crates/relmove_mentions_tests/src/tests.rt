@@ -59,12 +59,12 @@ fn mentions(
     }
 }
 
-// The same for a row: a directory, a text and the mentions. Nothing of the text was read.
+// The same for a row: a directory, a text and the mentions. The top is the root, and nothing of the text was read.
 fn row_mentions(alloc: Global, names: &OldNames<'_>, row: (&str, &str, &str)) -> Result<(), Fail> {
     let (directory, text, expected) = row;
-    let directory = RelativePath::new(directory);
     let file = FileText {
-        directory,
+        directories: &[RelativePath::new(directory)],
+        tops: &[RelativePath::new("")],
         text: text.as_bytes(),
         read: &[],
     };

@@ -38,7 +38,7 @@ fn names(
 }
 
 // A page with the old path outside the links that are read, and the line in which it is.
-const IN_PAGES: [(&str, &str, usize); 12] = [
+const IN_PAGES: [(&str, &str, usize); 15] = [
     ("front matter", "---\nnext: guide/a.md\n---\n", 2),
     ("an include", "x\n\n{{#include guide/a.md}}\n", 3),
     ("an attribute", "<img srcset='guide/a.md 2x'>\n", 1),
@@ -51,6 +51,9 @@ const IN_PAGES: [(&str, &str, usize); 12] = [
     ("a name without a definition", "[A][guide/a.md]\n", 1),
     ("a template", "[A]({{top}}/guide/a.md)\n", 1),
     ("a wiki link", "[[guide/a]]\n", 1),
+    ("the end of a sentence", "See guide/a.md.\n", 1),
+    ("an address of a site", "<a href='../guide/a/'>A</a>\n", 1),
+    ("the top of a site", "[A](/a/)\n", 1),
 ];
 
 #[test]
@@ -62,7 +65,7 @@ fn names_places_in_pages(rt: HostRuntime) -> Result<(), Fail> {
 }
 
 // A file with the old path.
-const IN_FILES: [(&str, (&str, &str), usize); 12] = [
+const IN_FILES: [(&str, (&str, &str), usize); 14] = [
     ("a nav", ("site/m.yml", "nav:\n  - A: guide/a.md\n"), 2),
     ("encoded", ("site/m.txt", "x\r\nguide/%61.md\n"), 2),
     ("HTML", ("site/i.html", "<a href=guide/a.html>A</a>"), 1),
@@ -87,6 +90,12 @@ const IN_FILES: [(&str, (&str, &str), usize); 12] = [
         2,
     ),
     ("in quotes", ("site/guide/m.txt", "ref \"a\"\n"), 1),
+    (
+        "a nav of a directory",
+        ("site/m.yml", "nav:\n  - a.md\n"),
+        2,
+    ),
+    ("an image of a site", ("site/m.html", "<img src=/a.md>"), 1),
 ];
 
 #[test]
@@ -98,7 +107,7 @@ fn names_places_in_other_files(rt: HostRuntime) -> Result<(), Fail> {
 }
 
 // A file in which no old path is written.
-const NONE: [(&str, (&str, &str)); 7] = [
+const NONE: [(&str, (&str, &str)); 8] = [
     (
         "a longer path",
         ("site/m.txt", "old/guide/a.md guide/a.mdx xguide/a.md"),
@@ -112,6 +121,7 @@ const NONE: [(&str, (&str, &str)); 7] = [
     ("another extension", ("site/m.js", "guide/a.md")),
     ("a page that isn't read", ("site/.p.md", "guide/a.md")),
     ("another site", ("site/m.txt", "https://x.org/guide/a.md")),
+    ("the end of an element", ("site/m.html", "<a href=x>A</a>")),
 ];
 
 #[test]
@@ -269,6 +279,179 @@ fn names_no_place_that_moves_along(rt: HostRuntime) -> Result<(), Fail> {
         printed.push_str(WOULD_MOVE)?;
         let words = ["site", "guide", "g"];
         answers_in(alloc, case, &disk, &words, (status, printed.as_str(), ""))?;
+    }
+    Ok(())
+}
+
+// What a page that moves, or a file that stays, says of files. What is said no longer leads there.
+const LOST: [(&str, &[Place], &[&str], &str); 9] = [
+    (
+        "indented text of a page that moves",
+        &[
+            ("b.md", Some("bb")),
+            ("p.md", Some("!!! note\n\n    [b](b.md)\n")),
+        ],
+        &["site", "p.md", "x/p.md"],
+        "site/p.md:3: b.md is written here, and isn't a link that is read\n0 pages would change, 1 file would move. Nothing is written: add --write.\n",
+    ),
+    (
+        "an include of a page that moves",
+        &[
+            ("c", None),
+            ("c/a.rs", Some("aa")),
+            ("p.md", Some("{{#include c/a.rs}}\n")),
+        ],
+        &["site", "p.md", "x/p.md"],
+        "site/p.md:1: c/a.rs is written here, and isn't a link that is read\n0 pages would change, 1 file would move. Nothing is written: add --write.\n",
+    ),
+    (
+        "a page as HTML, which moves too",
+        &[
+            ("a", None),
+            ("a/p.md", Some("[x](../r/s.html)\n")),
+            ("r", None),
+            ("r/s.md", Some("ss")),
+        ],
+        &["site", "a/p.md", "b/c/p.md", "r/s.md", "r/t.md"],
+        "site/b/c/p.md, from site/a/p.md: 1 link\nsite/a/p.md:1: r/s.md is written here, and isn't a link that is read\n1 page would change, 2 files would move. Nothing is written: add --write.\n",
+    ),
+    (
+        "the directory above, whose index page leaves",
+        &[
+            ("README.md", Some("rr")),
+            ("a", None),
+            ("a/p.md", Some("[up](../)\n")),
+        ],
+        &["site", "README.md", "x.md"],
+        "site/a/p.md:1: README.md is written here, and isn't a link that is read\n0 pages would change, 1 file would move. Nothing is written: add --write.\n",
+    ),
+    (
+        "the same in a page that moves too",
+        &[
+            ("README.md", Some("rr")),
+            ("a", None),
+            ("a/p.md", Some("[up](..)\n")),
+        ],
+        &["site", "README.md", "x.md", "a/p.md", "b/c/p.md"],
+        "site/b/c/p.md, from site/a/p.md: 1 link\nsite/a/p.md:1: README.md is written here, and isn't a link that is read\n1 page would change, 2 files would move. Nothing is written: add --write.\n",
+    ),
+    (
+        "a nav of paths in a directory",
+        &[
+            ("docs", None),
+            ("docs/a.md", Some("aa")),
+            ("docs/b", None),
+            ("docs/b/c.md", Some("cc")),
+            ("mkdocs.yml", Some("nav:\n- a.md\n- b/c.md\n")),
+        ],
+        &["site", "docs/a.md", "docs/x.md", "docs/b/c.md", "docs/c.md"],
+        "site/mkdocs.yml:2: docs/a.md is written here, and isn't a link that is read\nsite/mkdocs.yml:3: docs/b/c.md is written here, and isn't a link that is read\n0 pages would change, 2 files would move. Nothing is written: add --write.\n",
+    ),
+    (
+        "an index page as HTML",
+        &[
+            ("guide", None),
+            ("guide/README.md", Some("rr")),
+            ("p.md", Some("[g](guide/index.html)\n")),
+        ],
+        &["site", "guide/README.md", "r.md"],
+        "site/p.md:1: guide/README.md is written here, and isn't a link that is read\n0 pages would change, 1 file would move. Nothing is written: add --write.\n",
+    ),
+    (
+        "a link and a word in their order",
+        &[
+            ("guide", None),
+            ("guide/README.md", Some("rr")),
+            ("guide/x.md", Some("xx")),
+            (
+                "p.md",
+                Some("`guide/README`\n[g](guide)\n`guide/README.md`\n"),
+            ),
+        ],
+        &["site", "guide/README.md", "r.md"],
+        "site/p.md:1: guide/README.md is written here, and isn't a link that is read\nsite/p.md:2: guide/README.md is written here, and isn't a link that is read\nsite/p.md:3: guide/README.md is written here, and isn't a link that is read\n0 pages would change, 1 file would move. Nothing is written: add --write.\n",
+    ),
+    (
+        "a file that has the name of a page as HTML",
+        &[
+            ("a.html", Some("hh")),
+            ("a.md", Some("aa")),
+            ("m.txt", Some("see a.html\n")),
+        ],
+        &["site", "a.html", "b.html"],
+        "site/m.txt:1: a.html is written here, and isn't a link that is read\n0 pages would change, 1 file would move. Nothing is written: add --write.\n",
+    ),
+];
+
+#[test]
+fn names_what_no_longer_leads_there(rt: HostRuntime) -> Result<(), Fail> {
+    for (case, before, words, printed) in &LOST {
+        let disk = disk_of(rt.alloc(), before)?;
+        answers_in(
+            rt.alloc(),
+            case,
+            &disk,
+            words,
+            (Status::LinksLeft, printed, ""),
+        )?;
+    }
+    Ok(())
+}
+
+// The same, and what is said still leads there.
+const STILL_RIGHT: [(&str, &[Place], &[&str], &str); 4] = [
+    (
+        "a page as HTML, which stays",
+        &[
+            ("a", None),
+            ("a/p.md", Some("[x](../r/s.html)\n")),
+            ("r", None),
+            ("r/s.md", Some("ss")),
+        ],
+        &["site", "a/p.md", "b/c/p.md"],
+        "site/b/c/p.md, from site/a/p.md: 1 link\n1 page would change, 1 file would move. Nothing is written: add --write.\n",
+    ),
+    (
+        "a page that has the name of a file as HTML",
+        &[
+            ("README.md", Some("rr")),
+            ("index.html", Some("hh")),
+            ("m.txt", Some("see index.html\n")),
+        ],
+        &["site", "README.md", "r.md"],
+        "0 pages would change, 1 file would move. Nothing is written: add --write.\n",
+    ),
+    (
+        "a file of the file's own directory",
+        &[
+            ("x", None),
+            ("x/m.txt", Some("guide/a.md\n")),
+            ("x/guide", None),
+            ("x/guide/a.md", Some("aa")),
+            ("guide", None),
+            ("guide/a.md", Some("aa")),
+        ],
+        &["site", "guide/a.md", "a.md"],
+        "0 pages would change, 1 file would move. Nothing is written: add --write.\n",
+    ),
+    (
+        "a path from the top in a page that moves",
+        &[
+            ("c", None),
+            ("c/a.rs", Some("aa")),
+            ("d", None),
+            ("d/p.md", Some("See `c/a.rs` and `/c/a.rs`.\n")),
+        ],
+        &["site", "d/p.md", "x/p.md"],
+        "0 pages would change, 1 file would move. Nothing is written: add --write.\n",
+    ),
+];
+
+#[test]
+fn names_nothing_that_still_leads_there(rt: HostRuntime) -> Result<(), Fail> {
+    for (case, before, words, printed) in &STILL_RIGHT {
+        let disk = disk_of(rt.alloc(), before)?;
+        answers_in(rt.alloc(), case, &disk, words, (Status::Kept, printed, ""))?;
     }
     Ok(())
 }

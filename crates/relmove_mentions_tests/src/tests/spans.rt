@@ -7,10 +7,11 @@ use relmove_mentions::{FileText, OldNames, TextSpan};
 use std::alloc::Global;
 use std::test::Fail;
 
-const BOUNDS: [(&str, &str, &str); 9] = [
+const BOUNDS: [(&str, &str, &str); 10] = [
     ("", "a.md", "a.md > a.md; "),
     ("", "<a.md>\na.md:12", "a.md > a.md; a.md > a.md; "),
-    ("", "a.md. xa.md a.mdx a.md-b _a.md", ""),
+    ("", "a.md.. xa.md a.mdx a.md-b _a.md a.md.b .a.md", ""),
+    ("", "See a.md. Or a.md.", "a.md > a.md; a.md > a.md; "),
     ("", "a.mdé éa.md a.md%20 a.md/b", ""),
     (
         "",
@@ -57,7 +58,7 @@ const WITH_OTHERS: [(&str, &str, &str); 9] = [
         "file.md > file.md; file > file.md; ",
     ),
     ("", "xmy file", "file > file.md; "),
-    ("docs", "x (old).", ""),
+    ("docs", "x (old).", "x (old) > docs/x (old); "),
     ("docs", "x (old), x (old", "x (old) > docs/x (old); "),
     (
         "a",
@@ -118,7 +119,8 @@ fn text_mentions(alloc: Global, text: &str, read: &[TextSpan], expected: &str) -
     let views = views(alloc, paths.as_slice())?;
     let names = OldNames::of(alloc, views.as_slice())?;
     let file = FileText {
-        directory: RelativePath::new(""),
+        directories: &[RelativePath::new("")],
+        tops: &[],
         text: text.as_bytes(),
         read,
     };
@@ -155,7 +157,8 @@ fn other_encodings(rt: HostRuntime) -> Result<(), Fail> {
     let views = views(alloc, paths.as_slice())?;
     let names = OldNames::of(alloc, views.as_slice())?;
     let file = FileText {
-        directory: RelativePath::new(""),
+        directories: &[RelativePath::new("")],
+        tops: &[],
         text: b"\xFFa.md a.md\xE9 \xC3 a.md",
         read: &[],
     };

@@ -34,7 +34,8 @@ fn mentions_of(alloc: Global, (directory, text, expected): (&str, &str, &str)) -
     let views = views(alloc, paths.as_slice())?;
     let names = OldNames::of(alloc, views.as_slice())?;
     let file = FileText {
-        directory: RelativePath::new(directory),
+        directories: &[RelativePath::new(directory)],
+        tops: &[RelativePath::new("")],
         text: text.as_bytes(),
         read: &[],
     };

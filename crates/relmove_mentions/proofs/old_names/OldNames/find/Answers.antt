@@ -2,7 +2,6 @@
 use Rattle.std.proofs.Common.{◌≡◌, refl, sym, ◌∙◌}
 use Rattle.std.proofs.lemmas.Result.{IfOk-weaker}
 use Rattle.percent_encoding.specs.Percent.{percent_decode}
-use Rattle.relative_path.specs.RelativePath.{path_components}
 use Rattle.relmove_mentions.specs.Written.{StandsFor}
 use Rattle.relmove_mentions.proofs.OldNamesLemmas.{Finds-second}
 use Rattle.relmove_mentions.proofs.WrittenLemmas.{Finds-plain}
@@ -10,12 +9,10 @@ use Rattle.relmove_mentions.proofs.old_names.OldNames.find.Goals as goal
 
 pub returns-then-not-has_percent : goal.returns-then-not-has_percent
 returns-then-not-has_percent c = λ olds has.
-    Finds-plain olds (path_components c.args.directory) c.args.bytes.now
-    (sym c.has_percent.ensures ∙ c.if-not-has_percent.true) (rw c.in_default.is at (c.in_ok-old.ensures olds has))
+    Finds-plain olds c.args.file c.args.bytes.now (sym c.has_percent.ensures ∙ c.if-not-has_percent.true) (rw c.in_default.is at (c.in_ok-old.ensures olds has))
 
 pub returns : goal.returns
 returns c =
-    let directory = path_components c.args.directory in
     let bytes = c.args.bytes.now in
     let is_text : c.as_slice.result.now ≡ percent_decode c.args.bytes.now =
     rw (
@@ -26,5 +23,5 @@ returns c =
     ) refl in
     IfOk-weaker c.find_text-2.result _ _
     (λ found is olds has.
-    Finds-second olds (StandsFor directory bytes) (StandsFor directory (percent_decode bytes)) found
+    Finds-second olds (StandsFor c.args.file bytes) (StandsFor c.args.file (percent_decode bytes)) found
     (rw c.in_default.is at (c.in_ok-old.ensures olds has)) (rw is_text at (is olds has))) c.find_text-2.ensures

@@ -1,7 +1,6 @@
 -- A mention is where an old path is written, within bounds and outside what was read.
 use Rattle.std.proofs.Common.{◌≤◌, sym, subst, arith, true≢false, ◌∙◌}
 use Rattle.std.proofs.lemmas.Result.{IfOk-weaker}
-use Rattle.relative_path.specs.RelativePath.{path_components}
 use Rattle.relmove_mentions.specs.Mentions.{IsMention}
 use Rattle.relmove_mentions.specs.Spans.{others_in, span_bytes}
 use Rattle.relmove_mentions.specs.Written.{IsWritten}
@@ -23,7 +22,7 @@ returns c =
     let bytes = span_bytes text c.args.span in
     IfOk-weaker c.find.result _ _
     (λ found finds olds has.
-    Finds-map olds (IsWritten (path_components c.args.file.directory) bytes) (IsMention olds c.args.file c.args.span) found
+    Finds-map olds (IsWritten c.args.file bytes) (IsMention olds c.args.file c.args.span) found
     (λ old is_old written. record {
       is_old = is_old;
       bounded = record {

@@ -2,7 +2,7 @@
 use Rattle.std.proofs.Common.{◌≡◌, IsSome, None, refl, subst, sym, ◌∙◌}
 use Rattle.std.proofs.lemmas.Result.{IfOk-weaker}
 use Rattle.relative_path.specs.Naming.{file_name_of}
-use Rattle.relative_path.specs.RelativePath.{path_components, path_text}
+use Rattle.relative_path.specs.RelativePath.{path_text}
 use Rattle.relmove_mentions.specs.OldNames.{Finds}
 use Rattle.relmove_mentions.specs.Written.{LeadsFromDirectory, LeadsFromTop}
 use Rattle.relmove_mentions.proofs.OldNamesLemmas.{Finds-second, StandsFor-no_last}
@@ -12,19 +12,19 @@ use Rattle.relmove_mentions.proofs.old_names.OldNames.find_text.Goals as goal
 pub returns-then-not-has_last_name : goal.returns-then-not-has_last_name
 returns-then-not-has_last_name c = λ olds has old is_old stands.
     let is_text : path_text c.new-path.result ≡ c.args.text.now = c.new-path.ensures ∙ c.in-Ok.ensures.cases.0 in
-    StandsFor-no_last olds c.args.self.now (path_components c.args.directory) c.args.text.now c.in-Some.last.now old has is_old
+    StandsFor-no_last olds c.args.self.now c.args.file c.args.text.now c.in-Some.last.now old has is_old
     (rw is_text at (sym c.in-Some.ensures.text)) (sym c.has_last_name.ensures ∙ c.if-not-has_last_name.true) stands
 
 pub returns : goal.returns
 returns c =
-    let directory = path_components c.args.directory in
+    let file = c.args.file in
     let text = c.args.text.now in
     let is_text : path_text c.new-path.result ≡ c.args.text.now = c.new-path.ensures ∙ c.in-Ok.ensures.cases.0 in
     let named : IsSome (file_name_of (path_text c.new-path.result)) = subst IsSome c.in-Some.ensures.text refl in
     IfOk-weaker c.find_from_top.result _ _
     (λ found is olds has.
-    let none : Finds olds (LeadsFromDirectory directory (path_text c.new-path.result)) None =
+    let none : Finds olds (LeadsFromDirectory file (path_text c.new-path.result)) None =
     rw c.in_default-2.is at (c.in_ok-old.ensures olds has) in
-    Finds-text olds directory text found c.in-Ok.ensures.cases.1 (rw is_text at named)
-    (Finds-second olds (LeadsFromDirectory directory text) (LeadsFromTop text) found (rw is_text at none)
+    Finds-text olds file text found c.in-Ok.ensures.cases.1 (rw is_text at named)
+    (Finds-second olds (LeadsFromDirectory file text) (LeadsFromTop file text) found (rw is_text at none)
     (rw is_text at (is olds has)))) c.find_from_top.ensures
