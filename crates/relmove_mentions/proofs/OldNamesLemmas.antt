@@ -337,36 +337,30 @@ LeadsFrom-nil cs old from = no from.is_one where
   no (k, within, is) = omega (arith, within)
 
 -- what it leads to from one of them, it leads to from them
-pub LeadsFrom-one : (directories : List RelativePath) (i : ℕ) (directory : RelativePath) (cs : List Step) (old : List ℕ)
-    → i < length directories → directory ≡ get_or directories i directory
-    → LeadsToPath (path_components directory ++ cs) old → LeadsFrom (map path_components directories) cs old
-LeadsFrom-one directories i directory cs old within is leads = record {
-  directory = path_components directory;
+pub LeadsFrom-one : (directories : List RelativePath) (i : ℕ) (none : RelativePath) (cs : List Step) (old : List ℕ)
+    → i < length directories → LeadsToPath (path_components (get_or directories i none) ++ cs) old
+    → LeadsFrom (map path_components directories) cs old
+LeadsFrom-one directories i none cs old within leads = record {
+  directory = path_components (get_or directories i none);
   is_one =
-      subst (Contains (map path_components directories))
-      (get_or-map path_components directories i directory ∙ ap path_components (sym is))
-      (Contains-get_or (map path_components directories) i (path_components directory)
+      subst (Contains (map path_components directories)) (get_or-map path_components directories i none)
+      (Contains-get_or (map path_components directories) i (path_components none)
       (omega (arith, within, length-map directories path_components)));
   leads = leads;
 }
 
 -- what it leads to from these directories and the next one, it leads to from these or from that
-pub LeadsFrom-next : (directories : List RelativePath) (i : ℕ) (directory : RelativePath) (cs : List Step) (old : List ℕ)
-    → i < length directories → directory ≡ get_or directories i directory
-    → LeadsFrom (map path_components (take (i + 1) directories)) cs old
-    → LeadsFrom (map path_components (take i directories)) cs old ⊎ LeadsToPath (path_components directory ++ cs) old
-LeadsFrom-next directories i directory cs old within is from =
-    elim (Contains-push_cases (map path_components (take i directories)) (path_components directory) from.directory
-    (subst (λ list. Contains list from.directory) next from.is_one)) [
+pub LeadsFrom-next : (directories : List RelativePath) (i : ℕ) (none : RelativePath) (cs : List Step) (old : List ℕ)
+    → i < length directories → LeadsFrom (map path_components (take (i + 1) directories)) cs old
+    → LeadsFrom (map path_components (take i directories)) cs old
+    ⊎ LeadsToPath (path_components (get_or directories i none) ++ cs) old
+LeadsFrom-next directories i none cs old within from =
+    elim (Contains-push_cases (map path_components (take i directories)) (path_components (get_or directories i none))
+    from.directory
+    (subst (λ list. Contains list from.directory) (map_more path_components directories i none within) from.is_one)) [
       | inl before ↦ inl (record { directory = from.directory; is_one = before; leads = from.leads })
       | inr same ↦ inr (subst (λ d. LeadsToPath (d ++ cs) old) (sym same) from.leads)
     ]
-  where
-    next : map path_components (take (i + 1) directories)
-        ≡ map path_components (take i directories) ++ path_components directory ∷ []
-    next =
-        map_more path_components directories i directory within
-        ∙ ap (λ d. map path_components (take i directories) ++ path_components d ∷ []) (sym is)
 
 -- what is found for a property is found for one that holds of the same paths
 pub Finds-map : (olds : List (List ℕ)) (P Q : List ℕ → Type 0) (found : Option NormalView)

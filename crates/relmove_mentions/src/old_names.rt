@@ -127,7 +127,8 @@ impl<'p> OldNames<'p> {
         let directory = directory(path);
         let html = directory.join(alloc, RelativePath::new("index.html"))?;
         self.insert(alloc, html.as_relative_path(), old)?;
-        self.insert_directory(alloc, directory, old)
+        self.insert_directory(alloc, directory, old)?;
+        Ok(())
     }
 
     // Inserts a directory, unless it is the root.

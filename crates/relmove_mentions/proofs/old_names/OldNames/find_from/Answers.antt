@@ -1,5 +1,5 @@
 -- Each turn tries the next directory.
-use Rattle.std.proofs.Common.{map, subst}
+use Rattle.std.proofs.Common.{inl, inr, map, subst, sym}
 use Rattle.std.proofs.lemmas.List.{take_all}
 use Rattle.relative_path.specs.RelativePath.{path_components}
 use Rattle.relmove_mentions.specs.Written.{LeadsFrom}
@@ -11,8 +11,8 @@ loop-directory-init c = λ olds has old is_old. LeadsFrom-nil (path_components c
 
 pub loop-directory-preserved : goal.loop-directory-preserved
 loop-directory-preserved c = λ olds has old is_old from.
-    elim (LeadsFrom-next c.args.directories.now c.loop-directory.directory-index c.directory-item.result
-    (path_components c.args.path) old c.loop-directory-test.true c.directory-item.is from) [
+    elim (LeadsFrom-next c.args.directories.now c.loop-directory.directory-index _ (path_components c.args.path) old
+    c.loop-directory-test.true from) [
       | inl before ↦ c.loop-directory.invariant olds has old is_old before
       | inr leads ↦ (rw c.in_default.is at (c.in_ok-old.ensures olds has)) old is_old leads
     ]
@@ -21,12 +21,12 @@ pub returns-in-Some : goal.returns-in-Some
 returns-in-Some c = λ olds has.
     let (is_old, leads) = rw c.in-Some.is at (c.in_ok-old.ensures olds has) in (
       is_old,
-      LeadsFrom-one c.args.directories.now c.loop-directory.directory-index c.directory-item.result
-          (path_components c.args.path) _ c.loop-directory-test.true c.directory-item.is leads,
+      LeadsFrom-one c.args.directories.now c.loop-directory.directory-index _ (path_components c.args.path) _
+          c.loop-directory-test.true leads,
     )
 
 pub returns : goal.returns
 returns c = λ olds has old is_old from.
     c.loop-directory.invariant olds has old is_old
     (subst (λ list. LeadsFrom (map path_components list) (path_components c.args.path) old)
-    (take_all c.loop-directory.directory-index c.args.directories.now c.loop-directory-test.false) from)
+    (sym (take_all c.loop-directory.directory-index c.args.directories.now c.loop-directory-test.false)) from)

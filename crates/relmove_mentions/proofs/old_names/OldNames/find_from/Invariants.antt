@@ -1,5 +1,5 @@
 -- From the directories so far the path leads to no old path.
-use Rattle.std.proofs.Common.{¬◌, ℕ, List, map, take}
+use Rattle.std.proofs.Common.{ℕ, List, map, take}
 use Rattle.std.specs.List.{Contains}
 use Rattle.relative_path.specs.RelativePath.{path_components}
 use Rattle.relmove_mentions.specs.OldNames.{Has}
