@@ -1,4 +1,5 @@
 //! The directories from which the paths in a file can lead.
+use crate::extensions::is_data;
 use relative_path::RelativePath;
 use relative_path_moves::TreeMoves;
 use relative_path_places::{NormalPath, directory};
@@ -96,22 +97,4 @@ fn push_tops_in<'a>(
         }
     }
     Ok(())
-}
-
-// The extensions of files that have values more than sentences.
-const DATA: [&str; 4] = ["yml", "yaml", "toml", "json"];
-
-/// Whether the file at a path has values more than sentences. Allocates nothing.
-pub fn is_data(path: RelativePath<'_>) -> bool {
-    is_one_of(path, &DATA)
-}
-
-/// Whether a path has one of these extensions, in any case. Allocates nothing.
-pub fn is_one_of(path: RelativePath<'_>, extensions: &[&str]) -> bool {
-    match path.extension() {
-        Some(extension) => extensions
-            .iter()
-            .any(|other| extension.eq_ignore_ascii_case(other)),
-        None => false,
-    }
 }

@@ -5,19 +5,21 @@
 //!
 //! ```text
 //! what is in the pages    dead_links  mentions
-//! what a page can mean    bases  words
+//! the search of a text    search
+//! what it knows           moved_names  targets  places
+//! what moves, and whence  moving_tree  bases  words
 //! what is at a path       presence  seen
 //! what is below the root  tree
-//! what all share          position
+//! what all share          position  extensions
 //! ```
 #![tactic(auto)]
 
 pub use self::dead_links::{
     Checked, DeadLink, WhyDead, check_links, dead_links_of, leads_somewhere,
 };
-pub use self::mentions::{
-    MOST_PLACES, MentionPlace, MentionPlaces, SearchOptions, mentions_of, shown_path,
-};
+pub use self::mentions::{SearchOptions, mentions_of};
+pub use self::moving_tree::shown_path;
+pub use self::places::{MOST_PLACES, MentionPlace, MentionPlaces};
 pub use self::position::{Position, Positions, position_after};
 pub use self::presence::{Presence, presence_at};
 pub use self::seen::{Seen, find, known_answer, seen_by_system};
@@ -29,9 +31,15 @@ pub use self::tree::{
 
 mod bases;
 mod dead_links;
+mod extensions;
 mod mentions;
+mod moved_names;
+mod moving_tree;
+mod places;
 mod position;
 mod presence;
+mod search;
 mod seen;
+mod targets;
 mod tree;
 mod words;

@@ -1,5 +1,5 @@
 //! Which of the places where a path could be written are taken for one.
-use crate::bases::is_data;
+use crate::extensions::is_data;
 use relative_path::RelativePath;
 use relative_path_places::directory;
 use relmove_mentions::{Mention, TextSpan};

@@ -1,5 +1,7 @@
 //! The names of a path, and from where they lead to it.
-use super::rows_mention;
+use super::{mentions, normal_paths, rows_mention, views};
+use relative_path::RelativePath;
+use relmove_mentions::{FileText, OldNames};
 use std::test::Fail;
 
 const OLDS: [&str; 6] = [
@@ -53,7 +55,7 @@ const FROM_THE_TOP: [(&str, &str, &str); 10] = [
     ("", "../docs/setup.md /../top.md", ""),
 ];
 
-const FROM_THE_DIRECTORY: [(&str, &str, &str); 8] = [
+const FROM_THE_DIRECTORY: [(&str, &str, &str); 9] = [
     ("docs", "setup.md", "setup.md > docs/setup.md; "),
     ("docs", "./setup.html", "./setup.html > docs/setup.md; "),
     ("docs/guide", "../setup", "../setup > docs/setup.md; "),
@@ -68,6 +70,11 @@ const FROM_THE_DIRECTORY: [(&str, &str, &str); 8] = [
         "../guide > docs/guide/README.md; ",
     ),
     ("docs/guide", ". .. ../ / ./", ""),
+    (
+        "docs",
+        "guide/index.html index.html guide/index",
+        "guide/index.html > docs/guide/README.md; ",
+    ),
     ("img", "/logo.png", ""),
     ("img", "logo.html logo", ""),
 ];
@@ -102,4 +109,49 @@ fn names_from_the_directory(rt: HostRuntime) -> Result<(), Fail> {
 #[test]
 fn endings_of_pages(rt: HostRuntime) -> Result<(), Fail> {
     rows_mention(rt.alloc(), &OLDS, &ENDINGS)
+}
+
+// A text in a file of the directories `docs/guide` and `docs/guide/start`, with the tops `docs` and `img`, and what it
+// mentions.
+const FROM_SEVERAL: [(&str, &str); 7] = [
+    (
+        "/setup.md /setup/",
+        "/setup.md > docs/setup.md; /setup/ > docs/setup.md; ",
+    ),
+    (
+        "/guide/ guide/index.html",
+        "/guide/ > docs/guide/README.md; guide/index.html > docs/guide/README.md; ",
+    ),
+    ("setup.md logo.png", ""),
+    ("/logo.png", "/logo.png > img/logo.png; "),
+    ("/docs/setup.md docs/setup.md", ""),
+    (
+        "../setup ../../setup/",
+        "../setup > docs/setup.md; ../../setup/ > docs/setup.md; ",
+    ),
+    (
+        "README.md ../README.md",
+        "README.md > docs/guide/README.md; ../README.md > docs/guide/README.md; ",
+    ),
+];
+
+#[test]
+fn names_from_several_directories(rt: HostRuntime) -> Result<(), Fail> {
+    let alloc = rt.alloc();
+    let paths = normal_paths(alloc, &OLDS)?;
+    let views = views(alloc, paths.as_slice())?;
+    let names = OldNames::of(alloc, views.as_slice())?;
+    for (text, expected) in &FROM_SEVERAL {
+        let file = FileText {
+            directories: &[
+                RelativePath::new("docs/guide"),
+                RelativePath::new("docs/guide/start"),
+            ],
+            tops: &[RelativePath::new("docs"), RelativePath::new("img")],
+            text: text.as_bytes(),
+            read: &[],
+        };
+        mentions(alloc, &names, file, text, expected)?;
+    }
+    Ok(())
 }

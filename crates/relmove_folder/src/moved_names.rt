@@ -1,0 +1,143 @@
+//! The names of what moves in a tree, before the moves and after them.
+use crate::bases::Tops;
+use crate::extensions::is_searched;
+use crate::moving_tree::{number_of, numbers_of};
+use crate::tree::Tree;
+use relative_path::RelativePath;
+use relative_path_moves::TreeMoves;
+use relative_path_places::NormalPath;
+use relmove_mentions::OldNames;
+use std::alloc::{AllocError, Global};
+use std::collections::BTreeMap;
+
+/// The paths for which a tree is searched.
+#[derive(Drop)]
+pub struct SearchedPaths {
+    /// The number of each move, by its old path.
+    pub numbers: BTreeMap<String, usize>,
+    /// The entries that move.
+    pub moved: PathPairs,
+    /// All entries, if a file moves that is searched: what it writes of files that stay may no longer lead to them.
+    pub all: PathPairs,
+    /// The tops of the moves.
+    pub tops: Tops,
+}
+
+impl SearchedPaths {
+    /// What is searched for in a tree. Allocates the paths.
+    pub fn of(
+        alloc: Global,
+        tree: &Tree,
+        moves: &TreeMoves<'_>,
+    ) -> Result<SearchedPaths, AllocError> {
+        let numbers = numbers_of(alloc, moves.moves())?;
+        let moved = PathPairs::of(alloc, moves, moved_paths(alloc, tree, &numbers)?)?;
+        let all = PathPairs::of(alloc, moves, paths_for_moved(alloc, tree, &moved)?)?;
+        let tops = Tops::of(alloc, moves)?;
+        Ok(SearchedPaths {
+            numbers,
+            moved,
+            all,
+            tops,
+        })
+    }
+}
+
+/// Paths of entries before the moves and after them.
+#[derive(Drop)]
+pub struct PathPairs {
+    /// The paths before the moves.
+    pub before: Vec<NormalPath>,
+    /// Those after them.
+    pub after: Vec<NormalPath>,
+}
+
+impl PathPairs {
+    // These paths, and what they are after moves.
+    fn of(
+        alloc: Global,
+        moves: &TreeMoves<'_>,
+        before: Vec<NormalPath>,
+    ) -> Result<PathPairs, AllocError> {
+        let mut after = Vec::with_capacity(alloc, before.len())?;
+        for path in &before {
+            after.push(moves.path_after(alloc, path.as_relative_path())?)?;
+        }
+        Ok(PathPairs { before, after })
+    }
+}
+
+// The paths of the entries that move.
+fn moved_paths(
+    alloc: Global,
+    tree: &Tree,
+    numbers: &BTreeMap<String, usize>,
+) -> Result<Vec<NormalPath>, AllocError> {
+    let mut olds = Vec::new(alloc);
+    for path in tree.entries.keys() {
+        if number_of(numbers, path.as_str()).is_some() {
+            olds.push(NormalPath::of(alloc, RelativePath::new(path.as_str()))?)?;
+        }
+    }
+    Ok(olds)
+}
+
+// The paths of all entries, if a file moves that is searched, and none otherwise.
+fn paths_for_moved(
+    alloc: Global,
+    tree: &Tree,
+    moved: &PathPairs,
+) -> Result<Vec<NormalPath>, AllocError> {
+    let mut paths = Vec::new(alloc);
+    if !moved
+        .before
+        .iter()
+        .any(|path| is_searched(path.as_relative_path()))
+    {
+        return Ok(paths);
+    }
+    for path in tree.entries.keys() {
+        paths.push(NormalPath::of(alloc, RelativePath::new(path.as_str()))?)?;
+    }
+    Ok(paths)
+}
+
+/// The names of paths before the moves and after them.
+#[derive(Drop)]
+pub struct Names<'p> {
+    /// The names before the moves.
+    pub before: OldNames<'p>,
+    /// Those after them.
+    pub after: OldNames<'p>,
+}
+
+impl<'p> Names<'p> {
+    /// The names of paths. Allocates them.
+    pub fn of(alloc: Global, paths: &'p PathPairs) -> Result<Names<'p>, AllocError> {
+        Ok(Names {
+            before: names_of(alloc, &paths.before)?,
+            after: names_of(alloc, &paths.after)?,
+        })
+    }
+}
+
+// The names of paths.
+fn names_of(alloc: Global, paths: &[NormalPath]) -> Result<OldNames<'_>, AllocError> {
+    let mut views = Vec::with_capacity(alloc, paths.len())?;
+    for path in paths {
+        views.push(path.view())?;
+    }
+    OldNames::of(alloc, &views)
+}
+
+/// Paths as relative paths. Allocates the list.
+pub fn relative_paths(
+    alloc: Global,
+    paths: &[NormalPath],
+) -> Result<Vec<RelativePath<'_>>, AllocError> {
+    let mut relative = Vec::with_capacity(alloc, paths.len())?;
+    for path in paths {
+        relative.push(path.as_relative_path())?;
+    }
+    Ok(relative)
+}

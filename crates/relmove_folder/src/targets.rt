@@ -1,0 +1,131 @@
+//! The targets of a page that the search for old paths has to know.
+use crate::moving_tree::MovingTree;
+use crate::presence::{Presence, presence_at};
+use relative_path::RelativePath;
+use relative_path_links::{Change, Edit};
+use relmove_mentions::TextSpan;
+use std::alloc::{AllocError, Global};
+
+/// The targets of a page that its search has to know.
+#[derive(Drop)]
+pub struct PageTargets<'e> {
+    /// The spans of those that are read, in order.
+    pub read: Vec<TextSpan>,
+    /// Those that lead to directories whose index pages leave.
+    pub to_directories: Vec<ToDirectory>,
+    /// Those that lead to nothing, and get new texts, in order.
+    pub rewritten: Vec<Rewritten<'e>>,
+}
+
+impl<'e> PageTargets<'e> {
+    /// No targets. Allocates nothing.
+    pub fn new(alloc: Global) -> PageTargets<'e> {
+        PageTargets {
+            read: Vec::new(alloc),
+            to_directories: Vec::new(alloc),
+            rewritten: Vec::new(alloc),
+        }
+    }
+
+    /// The targets of edits of a page. Allocates the lists.
+    pub fn of(
+        alloc: Global,
+        moving: MovingTree<'_, '_>,
+        edits: &'e [Edit],
+    ) -> Result<PageTargets<'e>, AllocError> {
+        let mut targets = PageTargets::new(alloc);
+        for edit in edits {
+            targets.add(alloc, moving, edit)?;
+        }
+        Ok(targets)
+    }
+
+    // Adds the target of an edit.
+    fn add(
+        &mut self,
+        alloc: Global,
+        moving: MovingTree<'_, '_>,
+        edit: &'e Edit,
+    ) -> Result<(), AllocError> {
+        let span = TextSpan {
+            start: edit.target.start,
+            end: edit.target.end,
+        };
+        match (&edit.file, &edit.change) {
+            (None, Change::Kept) => Ok(()),
+            (None, _) | (Some(_), Change::Left(_)) => {
+                self.read.push(span)?;
+                Ok(())
+            }
+            (Some(file), change) => {
+                let is_new = *change != Change::Kept;
+                let rewritten = Rewritten {
+                    span,
+                    file: file.as_relative_path(),
+                };
+                self.add_path(alloc, moving, rewritten, is_new)
+            }
+        }
+    }
+
+    // Adds a target that leads to a path, and has a new text or none. One that leads to nothing can mean a page by another
+    // name, and one to a directory that stays can mean the directory's index page.
+    fn add_path(
+        &mut self,
+        alloc: Global,
+        moving: MovingTree<'_, '_>,
+        target: Rewritten<'e>,
+        is_new: bool,
+    ) -> Result<(), AllocError> {
+        let Rewritten { span, file } = target;
+        if let Some(old) = moving.left_index(alloc, file)? {
+            self.to_directories.push(ToDirectory {
+                start: span.start,
+                old,
+            })?;
+            self.read.push(span)?;
+            return Ok(());
+        }
+        if presence_at(moving.tree, file.as_str()) == Presence::Absent {
+            if is_new {
+                self.rewritten.push(target)?;
+            }
+            return Ok(());
+        }
+        if is_new || !moving.is_staying_directory(file.as_str()) {
+            self.read.push(span)?;
+        }
+        Ok(())
+    }
+
+    /// The rewritten target that has a span. Allocates nothing.
+    pub fn rewritten_at(&self, span: TextSpan) -> Option<&Rewritten<'e>> {
+        let number = self
+            .rewritten
+            .partition_point(|target| target.span.end <= span.start);
+        match self.rewritten.get(number) {
+            Some(target) if target.span.start <= span.start && span.end <= target.span.end => {
+                Some(target)
+            }
+            _ => None,
+        }
+    }
+}
+
+/// A target that leads to a directory whose index page leaves.
+#[derive(Drop)]
+pub struct ToDirectory {
+    /// The offset of the target.
+    pub start: usize,
+    /// The path of the index page.
+    pub old: String,
+}
+
+/// A target that leads to nothing, and gets a new text.
+#[derive(Clone, Copy)]
+pub struct Rewritten<'e> {
+    /// Its span.
+    pub span: TextSpan,
+    /// Where it leads.
+    pub file: RelativePath<'e>,
+}
