@@ -29,11 +29,11 @@ pub struct Search<'a, 'm, 'p> {
 
 impl<'p> Search<'_, '_, 'p> {
     /// Adds the places in the text of a file, apart from what was read. Allocates them.
-    pub fn add_text(
+    pub fn add_text<'t>(
         &self,
         alloc: Global,
-        path: &str,
-        text: &str,
+        path: &'t str,
+        text: &'t str,
         targets: &PageTargets<'_>,
         found: &mut MentionPlaces,
     ) -> Result<(), AllocError> {
@@ -72,17 +72,33 @@ impl<'p> Search<'_, '_, 'p> {
     fn add_mentions(
         &self,
         alloc: Global,
-        file: SearchedFile<'_>,
+        file: SearchedFile<'_, '_>,
         targets: &PageTargets<'_>,
         places: &mut Vec<OldPathAt>,
     ) -> Result<(), AllocError> {
         let names = self.names_for(file);
         let read = targets.read.as_slice();
-        let before = mentions_in(alloc, &names.before, file.before(self.tops), read)?;
+        let directories = directories_of(alloc, file.path, self.tops)?;
+        let before = mentions_in(
+            alloc,
+            &names.before,
+            &directories,
+            self.tops,
+            file.text,
+            read,
+        )?;
         if before.is_empty() {
             return Ok(());
         }
-        let after = mentions_in(alloc, &names.after, file.after(self.tops_after), read)?;
+        let directories = directories_of(alloc, file.new, self.tops_after)?;
+        let after = mentions_in(
+            alloc,
+            &names.after,
+            &directories,
+            self.tops_after,
+            file.text,
+            read,
+        )?;
         let mut passed = 0;
         for mention in &before {
             passed = count_before(&after, passed, mention.span);
@@ -96,7 +112,7 @@ impl<'p> Search<'_, '_, 'p> {
     }
 
     // The names for which a file is searched.
-    fn names_for(&self, file: SearchedFile<'_>) -> &Names<'p> {
+    fn names_for(&self, file: SearchedFile<'_, '_>) -> &Names<'p> {
         if file.new == file.path {
             self.moved
         } else {
@@ -108,7 +124,7 @@ impl<'p> Search<'_, '_, 'p> {
     fn add_mention(
         &self,
         alloc: Global,
-        file: SearchedFile<'_>,
+        file: SearchedFile<'_, '_>,
         targets: &PageTargets<'_>,
         change: Mentioned<'_>,
         places: &mut Vec<OldPathAt>,
@@ -129,7 +145,7 @@ impl<'p> Search<'_, '_, 'p> {
     fn lost_path(
         &self,
         alloc: Global,
-        file: SearchedFile<'_>,
+        file: SearchedFile<'_, '_>,
         targets: &PageTargets<'_>,
         change: Mentioned<'_>,
     ) -> Result<Option<String>, AllocError> {
@@ -158,7 +174,7 @@ impl<'p> Search<'_, '_, 'p> {
     fn file_at(
         &self,
         alloc: Global,
-        file: SearchedFile<'_>,
+        file: SearchedFile<'_, '_>,
         mention: Mention<'_>,
     ) -> Result<Option<RelativePathBuf>, AllocError> {
         let own = directory(file.path);
@@ -181,7 +197,7 @@ impl<'p> Search<'_, '_, 'p> {
     fn is_right_file(
         &self,
         alloc: Global,
-        file: SearchedFile<'_>,
+        file: SearchedFile<'_, '_>,
         mention: Mention<'_>,
         place: RelativePath<'_>,
     ) -> Result<bool, AllocError> {
@@ -246,7 +262,7 @@ impl<'p> Search<'_, '_, 'p> {
     fn add_places(
         &self,
         alloc: Global,
-        file: SearchedFile<'_>,
+        file: SearchedFile<'_, '_>,
         places: &[OldPathAt],
         found: &mut MentionPlaces,
     ) -> Result<(), AllocError> {
@@ -267,7 +283,7 @@ impl<'p> Search<'_, '_, 'p> {
     fn add(
         &self,
         alloc: Global,
-        file: SearchedFile<'_>,
+        file: SearchedFile<'_, '_>,
         shown: &str,
         place: LinePath<'_>,
         found: &mut MentionPlaces,
@@ -290,37 +306,9 @@ impl<'p> Search<'_, '_, 'p> {
 
 // A file that is searched, its path after the moves, and its text.
 #[derive(Clone, Copy)]
-struct SearchedFile<'a> {
+struct SearchedFile<'a, 'n> {
     path: RelativePath<'a>,
-    new: RelativePath<'a>,
-    text: &'a str,
-}
-
-impl<'a> SearchedFile<'a> {
-    // The file at its path before the moves, with these tops.
-    fn before(self, tops: &'a [RelativePath<'a>]) -> PlacedText<'a> {
-        PlacedText {
-            path: self.path,
-            tops,
-            text: self.text,
-        }
-    }
-
-    // The file at its path after the moves, with these tops.
-    fn after(self, tops: &'a [RelativePath<'a>]) -> PlacedText<'a> {
-        PlacedText {
-            path: self.new,
-            tops,
-            text: self.text,
-        }
-    }
-}
-
-// The text of a file at a path, and the tops.
-#[derive(Clone, Copy)]
-struct PlacedText<'a> {
-    path: RelativePath<'a>,
-    tops: &'a [RelativePath<'a>],
+    new: RelativePath<'n>,
     text: &'a str,
 }
 
@@ -371,22 +359,23 @@ fn line_path<'p>(place: &'p OldPathAt, positions: &mut Positions<'_>) -> LinePat
     }
 }
 
-// Where the text of a file has one of these names, apart from what was read. That is in order, since a plan made it.
-fn mentions_in<'p>(
+// Where a text has one of these names, apart from what was read. That is in order, since a plan made it.
+fn mentions_in<'p, 't>(
     alloc: Global,
     names: &OldNames<'p>,
-    file: PlacedText<'_>,
-    read: &[TextSpan],
+    directories: &'t [RelativePath<'t>],
+    tops: &'t [RelativePath<'t>],
+    text: &'t str,
+    read: &'t [TextSpan],
 ) -> Result<Vec<Mention<'p>>, AllocError> {
     if !are_spans_in_order(read) {
         return Ok(Vec::new(alloc));
     }
-    let directories = directories_of(alloc, file.path, file.tops)?;
-    let text = FileText {
-        directories: &directories,
-        tops: file.tops,
-        text: file.text.as_bytes(),
+    let file = FileText {
+        directories,
+        tops,
+        text: text.as_bytes(),
         read,
     };
-    names.mentions(alloc, text)
+    names.mentions(alloc, file)
 }

@@ -59,16 +59,34 @@ fn mentions(
     }
 }
 
+// A text of which nothing was read, in a file of these directories, on a site with these tops.
+fn unread<'a>(
+    directories: &'a [RelativePath<'a>],
+    tops: &'a [RelativePath<'a>],
+    text: &'a str,
+) -> FileText<'a>
+    ensures read { FollowFrom 0 result.read.now }
+{
+    FileText {
+        directories,
+        tops,
+        text: text.as_bytes(),
+        read: &[],
+    }
+}
+
 // The same for a row: a directory, a text and the mentions. The top is the root, and nothing of the text was read.
 fn row_mentions(alloc: Global, names: &OldNames<'_>, row: (&str, &str, &str)) -> Result<(), Fail> {
     let (directory, text, expected) = row;
-    let file = FileText {
-        directories: &[RelativePath::new(directory)],
-        tops: &[RelativePath::new("")],
-        text: text.as_bytes(),
-        read: &[],
-    };
-    mentions(alloc, names, file, text, expected)
+    let directories = [RelativePath::new(directory)];
+    let tops = [RelativePath::new("")];
+    mentions(
+        alloc,
+        names,
+        unread(&directories, &tops, text),
+        text,
+        expected,
+    )
 }
 
 // The same for each row, with these old paths.

@@ -1,8 +1,8 @@
 //! The names of an old path, and the mentions of one.
 use super::marks::{begin, end};
-use crate::tests::{normal_paths, print_mentions, row_mentions, views};
+use crate::tests::{normal_paths, print_mentions, row_mentions, unread, views};
 use relative_path::RelativePath;
-use relmove_mentions::{FileText, OldNames};
+use relmove_mentions::OldNames;
 use std::alloc::Global;
 use std::test::Fail;
 
@@ -33,12 +33,9 @@ fn mentions_of(alloc: Global, (directory, text, expected): (&str, &str, &str)) -
     let paths = normal_paths(alloc, &["a.txt"])?;
     let views = views(alloc, paths.as_slice())?;
     let names = OldNames::of(alloc, views.as_slice())?;
-    let file = FileText {
-        directories: &[RelativePath::new(directory)],
-        tops: &[RelativePath::new("")],
-        text: text.as_bytes(),
-        read: &[],
-    };
+    let directories = [RelativePath::new(directory)];
+    let tops = [RelativePath::new("")];
+    let file = unread(&directories, &tops, text);
     begin(alloc);
     let mentions = names.mentions(alloc, file);
     end(alloc, mentions.is_err())?;
