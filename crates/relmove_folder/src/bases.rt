@@ -56,22 +56,58 @@ fn insert_above(alloc: Global, texts: &mut BTreeSet<String>, path: &str) -> Resu
     Ok(())
 }
 
-/// The directories from which a path in the file at a path can lead: its own first, and for a page the one that it is in the
-/// addresses of a site. For a file of values these are also the tops in its directory, as `docs` is for `mkdocs.yml`.
-/// Allocates the list.
-pub fn directories_of<'a>(
+/// A directory from which the paths in a file can lead, and the same after the moves.
+#[derive(Clone, Copy)]
+pub struct Base<'a> {
+    /// The directory before the moves.
+    pub before: RelativePath<'a>,
+    /// The one after them.
+    pub after: RelativePath<'a>,
+    /// Whether it is a top: a name alone doesn't lead from there.
+    pub is_top: bool,
+}
+
+/// The directories from which the paths in the file at a path can lead, which is at another path after the moves: its own
+/// first, and for a page the one that it is in the addresses of a site. For a file of values these are also the tops in its
+/// directory, as `docs` is for `mkdocs.yml`. The tops come last. Allocates the list.
+pub fn bases_of<'t>(
     alloc: Global,
-    path: RelativePath<'a>,
-    tops: &[RelativePath<'a>],
-) -> Result<Vec<RelativePath<'a>>, AllocError> {
+    path: RelativePath<'t>,
+    new: RelativePath<'t>,
+    tops: &'t [RelativePath<'t>],
+    tops_after: &'t [RelativePath<'t>],
+) -> Result<Vec<Base<'t>>, AllocError> {
     let own = directory(path);
-    let mut directories = Vec::new(alloc);
-    directories.push(own)?;
+    let mut bases = Vec::new(alloc);
+    bases.push(Base {
+        before: own,
+        after: directory(new),
+        is_top: false,
+    })?;
     if is_page(path) {
-        directories.push(without_extension(path))?;
+        bases.push(Base {
+            before: without_extension(path),
+            after: without_extension(new),
+            is_top: false,
+        })?;
     }
     if is_data(path) {
-        push_tops_in(&mut directories, own, tops)?;
+        push_tops_in(&mut bases, own, tops, tops_after)?;
+    }
+    push_tops(&mut bases, tops, tops_after)?;
+    Ok(bases)
+}
+
+/// The directories before the moves that are no tops. Allocates the list.
+pub fn directories_of<'t>(
+    alloc: Global,
+    bases: &[Base<'t>],
+) -> Result<Vec<RelativePath<'t>>, AllocError> {
+    let mut directories = Vec::new(alloc);
+    for base in bases {
+        if !base.is_top {
+            directories.push(base.before)?;
+        }
     }
     Ok(directories)
 }
@@ -85,16 +121,37 @@ fn without_extension<'a>(path: RelativePath<'a>) -> RelativePath<'a> {
     }
 }
 
-// Appends the tops in a directory.
-fn push_tops_in<'a>(
-    directories: &mut Vec<RelativePath<'a>>,
-    own: RelativePath<'a>,
-    tops: &[RelativePath<'a>],
+// Appends the tops in a directory, as directories of a file.
+fn push_tops_in<'t>(
+    bases: &mut Vec<Base<'t>>,
+    own: RelativePath<'t>,
+    tops: &[RelativePath<'t>],
+    tops_after: &[RelativePath<'t>],
 ) -> Result<(), AllocError> {
-    for top in tops {
+    for (top, after) in tops.iter().zip(tops_after) {
         if top.parent() == Some(own) {
-            directories.push(*top)?;
+            bases.push(Base {
+                before: *top,
+                after: *after,
+                is_top: false,
+            })?;
         }
+    }
+    Ok(())
+}
+
+// Appends the tops.
+fn push_tops<'t>(
+    bases: &mut Vec<Base<'t>>,
+    tops: &[RelativePath<'t>],
+    tops_after: &[RelativePath<'t>],
+) -> Result<(), AllocError> {
+    for (top, after) in tops.iter().zip(tops_after) {
+        bases.push(Base {
+            before: *top,
+            after: *after,
+            is_top: true,
+        })?;
     }
     Ok(())
 }

@@ -1,5 +1,5 @@
 //! Searches the text of a file for paths that no longer lead where they led.
-use crate::bases::directories_of;
+use crate::bases::{Base, bases_of, directories_of};
 use crate::extensions::is_data;
 use crate::moved_names::Names;
 use crate::moving_tree::MovingTree;
@@ -8,7 +8,7 @@ use crate::position::Positions;
 use crate::targets::{PageTargets, Rewritten};
 use crate::words::{is_taken_for_path, written_at};
 use relative_path::{RelativePath, RelativePathBuf};
-use relative_path_places::directory;
+use relative_path_places::{NormalView, directory};
 use relmove_mentions::{FileText, Mention, OldNames, TextSpan, are_spans_in_order};
 use std::alloc::{AllocError, Global};
 
@@ -76,37 +76,13 @@ impl<'p> Search<'_, '_, 'p> {
         targets: &PageTargets<'_>,
         places: &mut Vec<OldPathAt>,
     ) -> Result<(), AllocError> {
-        let names = self.names_for(file);
+        let bases = bases_of(alloc, file.path, file.new, self.tops, self.tops_after)?;
+        let directories = directories_of(alloc, &bases)?;
+        let names = &self.names_for(file).before;
         let read = targets.read.as_slice();
-        let directories = directories_of(alloc, file.path, self.tops)?;
-        let before = mentions_in(
-            alloc,
-            &names.before,
-            &directories,
-            self.tops,
-            file.text,
-            read,
-        )?;
-        if before.is_empty() {
-            return Ok(());
-        }
-        let directories = directories_of(alloc, file.new, self.tops_after)?;
-        let after = mentions_in(
-            alloc,
-            &names.after,
-            &directories,
-            self.tops_after,
-            file.text,
-            read,
-        )?;
-        let mut passed = 0;
-        for mention in &before {
-            passed = count_before(&after, passed, mention.span);
-            let change = Mentioned {
-                mention: *mention,
-                after: after.get(passed).copied(),
-            };
-            self.add_mention(alloc, file, targets, change, places)?;
+        let mentions = mentions_in(alloc, names, &directories, self.tops, file.text, read)?;
+        for mention in &mentions {
+            self.add_mention(alloc, file, &bases, targets, *mention, places)?;
         }
         Ok(())
     }
@@ -125,16 +101,17 @@ impl<'p> Search<'_, '_, 'p> {
         &self,
         alloc: Global,
         file: SearchedFile<'_, '_>,
+        bases: &[Base<'_>],
         targets: &PageTargets<'_>,
-        change: Mentioned<'_>,
+        mention: Mention<'_>,
         places: &mut Vec<OldPathAt>,
     ) -> Result<(), AllocError> {
-        if !is_taken_for_path(alloc, file.path, file.text, &change.mention)? {
+        if !is_taken_for_path(alloc, file.path, file.text, &mention)? {
             return Ok(());
         }
-        if let Some(old) = self.lost_path(alloc, file, targets, change)? {
+        if let Some(old) = self.lost_path(alloc, file, bases, targets, mention)? {
             places.push(OldPathAt {
-                start: change.mention.span.start,
+                start: mention.span.start,
                 old,
             })?;
         }
@@ -146,10 +123,10 @@ impl<'p> Search<'_, '_, 'p> {
         &self,
         alloc: Global,
         file: SearchedFile<'_, '_>,
+        bases: &[Base<'_>],
         targets: &PageTargets<'_>,
-        change: Mentioned<'_>,
+        mention: Mention<'_>,
     ) -> Result<Option<String>, AllocError> {
-        let mention = change.mention;
         if let Some(place) = self.file_at(alloc, file, mention)? {
             let is_right = self.is_right_file(alloc, file, mention, place.as_relative_path())?;
             return Ok(if is_right {
@@ -160,7 +137,7 @@ impl<'p> Search<'_, '_, 'p> {
         }
         let is_right = match targets.rewritten_at(mention.span) {
             Some(target) => self.is_right_anew(alloc, self.names_for(file), target, mention)?,
-            None => self.is_right(alloc, mention, change.after)?,
+            None => self.is_right(alloc, file, bases, mention)?,
         };
         if is_right {
             return Ok(None);
@@ -218,44 +195,46 @@ impl<'p> Search<'_, '_, 'p> {
     ) -> Result<bool, AllocError> {
         let moved = self.moving.moves.path_after(alloc, target.file)?;
         let text = moved.as_relative_path().as_str();
-        let whole = TextSpan {
-            start: 0,
-            end: text.len(),
-        };
-        let file = FileText {
-            directories: &[RelativePath::new("")],
-            tops: &[],
-            text: text.as_bytes(),
-            read: &[],
-        };
-        let found = names.after.mentions(alloc, file)?;
-        let after = found.iter().find(|other| other.span == whole);
-        let expected = Mention {
-            span: whole,
-            path: mention.path,
-        };
-        self.is_right(alloc, expected, after.copied())
+        let after = path_from(alloc, &names.after, RelativePath::new(""), false, text)?;
+        self.is_moved_to(alloc, mention.path, after)
     }
 
-    // Whether a mention is right after the moves: the next one of a new path is at its span, and of the path to which its
-    // path moves. That is so, for example, if its file moves along. A path with another file name is written anew: not
-    // every site takes an `index.md` for its directory that takes a `README.md` for it.
+    // Whether a mention is right after the moves: from the first of the bases from which it leads to a path, it then leads to
+    // the new path of that. So it is, for example, if its file moves along.
     fn is_right(
         &self,
         alloc: Global,
+        file: SearchedFile<'_, '_>,
+        bases: &[Base<'_>],
         mention: Mention<'_>,
-        after: Option<Mention<'_>>,
+    ) -> Result<bool, AllocError> {
+        let written = written_at(file.text, mention.span);
+        let names = self.names_for(file);
+        for base in bases {
+            let old = path_from(alloc, &names.before, base.before, base.is_top, written)?;
+            if let Some(old) = old {
+                let after = path_from(alloc, &names.after, base.after, base.is_top, written)?;
+                return self.is_moved_to(alloc, old, after);
+            }
+        }
+        Ok(false)
+    }
+
+    // Whether what is at a path moves to this one, and keeps its file name. A path with another file name is written anew: not
+    // every site takes an `index.md` for its directory that takes a `README.md` for it.
+    fn is_moved_to(
+        &self,
+        alloc: Global,
+        old: NormalView<'_>,
+        after: Option<NormalView<'_>>,
     ) -> Result<bool, AllocError> {
         let Some(after) = after else {
             return Ok(false);
         };
-        if after.span != mention.span {
-            return Ok(false);
-        }
-        let old = mention.path.as_relative_path();
+        let old = old.as_relative_path();
         let moved = self.moving.moves.path_after(alloc, old)?;
         let new = moved.as_relative_path();
-        Ok(new == after.path.as_relative_path() && new.file_name() == old.file_name())
+        Ok(new == after.as_relative_path() && new.file_name() == old.file_name())
     }
 
     // Adds places in a file: one for each line and path.
@@ -312,32 +291,11 @@ struct SearchedFile<'a, 'n> {
     text: &'a str,
 }
 
-// A mention of a path, and the next mention of a path after the moves.
-#[derive(Clone, Copy)]
-struct Mentioned<'p> {
-    mention: Mention<'p>,
-    after: Option<Mention<'p>>,
-}
-
 // An old path, and the offset at which it is written.
 #[derive(Drop)]
 struct OldPathAt {
     start: usize,
     old: String,
-}
-
-// How many mentions come before a span, if so many do. They are in order.
-fn count_before(mentions: &[Mention<'_>], passed: usize, span: TextSpan) -> usize {
-    let mut count = passed;
-    while count < mentions.len() && comes_before(mentions[count].span, span) {
-        count += 1;
-    }
-    count
-}
-
-// Whether a span comes before another: it begins first, or begins there too and ends first.
-fn comes_before(span: TextSpan, other: TextSpan) -> bool {
-    span.start < other.start || (span.start == other.start && span.end < other.end)
 }
 
 // An old path, and the line in which it is written.
@@ -378,4 +336,26 @@ fn mentions_in<'p, 't>(
         read,
     };
     names.mentions(alloc, file)
+}
+
+// The path to which a text leads as a whole from a directory of its file, or from a top.
+fn path_from<'p, 't>(
+    alloc: Global,
+    names: &OldNames<'p>,
+    base: RelativePath<'t>,
+    is_top: bool,
+    text: &'t str,
+) -> Result<Option<NormalView<'p>>, AllocError> {
+    let bases = [base];
+    let found = if is_top {
+        mentions_in(alloc, names, &[], &bases, text, &[])?
+    } else {
+        mentions_in(alloc, names, &bases, &[], text, &[])?
+    };
+    let whole = TextSpan {
+        start: 0,
+        end: text.len(),
+    };
+    let mention = found.iter().find(|mention| mention.span == whole);
+    Ok(mention.map(|mention| mention.path))
 }

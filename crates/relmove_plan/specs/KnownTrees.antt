@@ -8,7 +8,7 @@ use Rattle.relative_path_links.specs.declared.site.SitePage.{SitePage}
 use Rattle.relative_path_moves.specs.Moves.{Move, move_at}
 use Rattle.relative_path_places.specs.PlaceIndex.{IsNoneAt}
 use Rattle.relmove_checks.specs.declared.entry.Entry.{Entry}
-use Rattle.relmove_checks.specs.Trees.{entry_paths, is_unread}
+use Rattle.relmove_checks.specs.Trees.{is_unread}
 use Rattle.relmove_steps.specs.Actions.{ActionTexts, staged_names}
 use Rattle.relmove_steps.specs.Pages.{changed_paths}
 use Rattle.relmove_trees.specs.FileTrees.{Directory, File, IsWholeTree, Place, Tree, names_of}
@@ -63,11 +63,6 @@ pub record AgreesWith (entries : List Entry) (pages : List SitePage) (moves : Li
       → (place ≡ []) ⊎ (((b : Bool) × Any (IsAt b place) entries) ⊎ IsBelowUnread entries moves place)
   pub staging : (staging : List ℕ) → Contains (staged_names actions) staging → tree (staging ∷ []) ≡ None
   pub new_files : (new : List ℕ × List ℕ × List ℕ) → Contains actions.texts new → tree (names_of new.1) ≡ None
-
--- no entry is at the names that the actions make
-pub record MakesFreeNames (entries : List Entry) (actions : ActionTexts) : Type 0 where
-  pub staging : All (λ staging. IsNoneAt (entry_paths entries) (components staging)) (staged_names actions)
-  pub new_files : All (λ new. IsNoneAt (entry_paths entries) (components new.1)) actions.texts
 
 -- the second tree is the first with the new texts of the pages that change
 pub record HasTexts (pages : List SitePage) (news : List MovedSitePage) (tree now : Tree) : Type 0 where

@@ -1,11 +1,14 @@
 //! The plan of a run.
 ghost use Rattle.std.specs.Prelude.{◌≡◌, IfErr, IfOk, OnOk, map, string_bytes};
-ghost use Rattle.relative_path_links.specs.Site.{KeepTheirLinks};
+ghost use Rattle.relative_path_links.specs.Site.{AreRewritten, KeepTheirLinks};
 ghost use Rattle.relative_path_moves.specs.Moves.{moves_of};
 ghost use Rattle.relmove_checks.specs.Plan.{AreAllowed, IsRefused};
-ghost use Rattle.relmove_steps.specs.Pages.{page_paths};
-ghost use Rattle.relmove_steps.specs.Actions.{action_texts};
-ghost use Rattle.relmove_plan.specs.KnownTrees.{MakesFreeNames, RunsOn};
+ghost use Rattle.relmove_checks.specs.Trees.{entry_paths};
+ghost use Rattle.relmove_steps.specs.Actions.{WritesPages, action_texts, staged_names};
+ghost use Rattle.relmove_steps.specs.NewFiles.{HaveOwnFiles};
+ghost use Rattle.relmove_steps.specs.Pages.{changed_paths, page_paths};
+ghost use Rattle.relmove_steps.specs.StagingNames.{AreFreeNames};
+ghost use Rattle.relmove_plan.specs.KnownTrees.{RunsOn};
 ghost use Rattle.relmove_plan.specs.WholeTrees.{IsWhole};
 
 use crate::symlinks::{SymlinkNotice, symlink_notices};
@@ -56,10 +59,20 @@ pub fn make_plan<'a, F: Finder>(
     // each relative link still leads to its file, query and fragment kept, or is left; just pages with a text change
     ensures links { IfOk result (λ plan. KeepTheirLinks (F.finds finder.now) (moves_of moves.now)
         tree.entry.pages.now plan.pages.items) }
+    // each page as by `rewrite_links`, but for targets that are given up, at its path after the moves
+    ensures rewritten { IfOk result (λ plan. AreRewritten (F.finds finder.now) (moves_of moves.now)
+        tree.entry.pages.now plan.pages.items) }
     // the moves pass each check
     ensures accepted { OnOk result (AreAllowed tree.entry.entries.now (moves_of moves.now) rule) }
-    // no entry is at the names that the actions make
-    ensures free { IfOk result (λ plan. MakesFreeNames tree.entry.entries.now (action_texts plan.actions)) }
+    // staging names are `.relmove-` and a number, all different, and no entry has one
+    ensures names { IfOk result (λ plan. AreFreeNames (entry_paths tree.entry.entries.now)
+        (staged_names (action_texts plan.actions))) }
+    // each new text has its own file, in the page's directory, where no entry is
+    ensures files { IfOk result (λ plan. HaveOwnFiles (entry_paths tree.entry.entries.now)
+        (changed_paths tree.entry.pages.now plan.pages.items) (action_texts plan.actions)) }
+    // new texts are of exactly the changed pages, in order
+    ensures texts { IfOk result (λ plan. WritesPages
+        (changed_paths tree.entry.pages.now plan.pages.items) (action_texts plan.actions)) }
     // on a whole tree that agrees with entries and pages the actions can be done, and end in the tree after the moves
     ensures run { IfOk result (λ plan. IsWhole tree.entry.entries.now (page_paths tree.entry.pages.now)
         → RunsOn tree.entry.entries.now tree.entry.pages.now plan.pages.items (moves_of moves.now)

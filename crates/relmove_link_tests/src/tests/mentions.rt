@@ -284,7 +284,7 @@ fn names_no_place_that_moves_along(rt: HostRuntime) -> Result<(), Fail> {
 }
 
 // What a page that moves, or a file that stays, says of files. What is said no longer leads there.
-const LOST: [(&str, &[Place], &[&str], &str); 9] = [
+const LOST: [(&str, &[Place], &[&str], &str); 10] = [
     (
         "indented text of a page that moves",
         &[
@@ -370,6 +370,24 @@ const LOST: [(&str, &[Place], &[&str], &str); 9] = [
         ],
         &["site", "guide/README.md", "r.md"],
         "site/p.md:1: guide/README.md is written here, and isn't a link that is read\nsite/p.md:2: guide/README.md is written here, and isn't a link that is read\nsite/p.md:3: guide/README.md is written here, and isn't a link that is read\n0 pages would change, 1 file would move. Nothing is written: add --write.\n",
+    ),
+    (
+        "a path from one top that leads there from another",
+        &[
+            ("docs", None),
+            ("docs/a.md", Some("aa")),
+            ("docs/b", None),
+            ("docs/b/c.md", Some("cc")),
+            ("docs/p.md", Some("[a](/a/)\n")),
+        ],
+        &[
+            "site",
+            "docs/a.md",
+            "docs/b/a.md",
+            "docs/b/c.md",
+            "docs/b/d.md",
+        ],
+        "site/docs/p.md:1: docs/a.md is written here, and isn't a link that is read\n0 pages would change, 2 files would move. Nothing is written: add --write.\n",
     ),
     (
         "a file that has the name of a page as HTML",

@@ -41,11 +41,19 @@ actions_of-requires-clause-long g c =
     (AllZip-long (ForMovedPage (KeepsLinks (g.F.Finder.finds c.args.finder.now)) c.in_ok-table.table)
     c.args.tree.pages.now c.in_ok-pages.pages.items c.in_ok-pages.ensures.links)
 
-pub returns-clause-free : goal.returns-clause-free
-returns-clause-free g c = record {
-  staging = (c.in_ok-actions.ensures.names (entry_paths c.args.tree.entries.now) c.in_ok-index.ensures).unused;
-  new_files = (c.in_ok-actions.ensures.files (entry_paths c.args.tree.entries.now) c.in_ok-index.ensures).unused;
-}
+pub returns-clause-rewritten : goal.returns-clause-rewritten
+returns-clause-rewritten g c = rw c.in_ok-table.ensures.table at c.in_ok-pages.ensures.rewritten
+
+pub returns-clause-names : goal.returns-clause-names
+returns-clause-names g c = c.in_ok-actions.ensures.names (entry_paths c.args.tree.entries.now) c.in_ok-index.ensures
+
+pub returns-clause-files : goal.returns-clause-files
+returns-clause-files g c =
+    rw c.deref.ensures.value at
+    (c.in_ok-actions.ensures.files (entry_paths c.args.tree.entries.now) c.in_ok-index.ensures)
+
+pub returns-clause-texts : goal.returns-clause-texts
+returns-clause-texts g c = rw c.deref.ensures.value at c.in_ok-actions.ensures.texts
 
 -- entries are where something leaves
 from_entries : (g : _) (c : goal.After-drop-index-2 g) → IsWhole c.args.tree.entries.now (page_paths c.args.tree.pages.now)
