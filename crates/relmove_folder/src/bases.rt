@@ -3,12 +3,13 @@ use crate::extensions::is_data;
 use relative_path::RelativePath;
 use relative_path_moves::TreeMoves;
 use relative_path_places::{NormalPath, directory};
+use relmove_journal::name_of;
 use relmove_mentions::is_page;
 use std::alloc::{AllocError, Global};
 use std::collections::BTreeSet;
 
-/// The directories from which a path can lead that begins with a slash, or has a directory before its name: each that is above
-/// an old path of a move. So the top of a site below the root is one of them if something of the site moves.
+/// The directories from which a path can lead that begins with a slash, or has a directory before its name: the root, and of
+/// the directories above an old path of a move each that is in the root, or has a name that tops of sites have.
 #[derive(Drop)]
 pub struct Tops {
     /// Their paths before the moves.
@@ -46,15 +47,27 @@ fn directories_above(alloc: Global, moves: &TreeMoves<'_>) -> Result<Vec<NormalP
     Ok(directories)
 }
 
-// Inserts the directories above a path: those before a slash, and the root.
+// Inserts the tops above a path: the root, and what is before a slash.
 fn insert_above(alloc: Global, texts: &mut BTreeSet<String>, path: &str) -> Result<(), AllocError> {
     texts.insert(String::new(alloc))?;
     for (slash, _) in path.match_indices('/') {
         let above = path.get(..slash).unwrap_or("");
-        texts.insert(String::from_str(alloc, above)?)?;
+        if may_be_top(above) {
+            texts.insert(String::from_str(alloc, above)?)?;
+        }
     }
     Ok(())
 }
+
+// Whether a directory below the root may be the top of a site: it is in the root, or has such a name.
+fn may_be_top(path: &str) -> bool {
+    !path.contains('/') || TOP_NAMES.iter().any(|name| *name == name_of(path))
+}
+
+// Names of the tops of sites, and of directories that are served as if they were.
+const TOP_NAMES: [&str; 10] = [
+    "assets", "book", "content", "doc", "docs", "pages", "public", "source", "src", "static",
+];
 
 /// A directory from which the paths in a file can lead, and the same after the moves.
 #[derive(Clone, Copy)]

@@ -57,11 +57,21 @@ fn is_of_directory(
     Ok(above == place.as_relative_path())
 }
 
-// Whether a target, or a word in quotes, begins at a span.
+// Whether a target begins at a span, or the span is in quotes, perhaps before a fragment or a query.
 fn is_marked(text: &str, span: TextSpan) -> bool {
-    BEFORE_PATHS
+    BEFORE_TARGETS
         .iter()
         .any(|mark| ends_before(text, span, mark))
+        || is_quoted(text, span, "\"")
+        || is_quoted(text, span, "'")
+}
+
+// Whether a span comes after a quote, and before the same one, a fragment or a query.
+fn is_quoted(text: &str, span: TextSpan, quote: &str) -> bool {
+    ends_before(text, span, quote)
+        && (begins_after(text, span, quote)
+            || begins_after(text, span, "#")
+            || begins_after(text, span, "?"))
 }
 
 // Whether a text has a mark right before a span.
@@ -72,5 +82,13 @@ fn ends_before(text: &str, span: TextSpan, mark: &str) -> bool {
     }
 }
 
-// What begins a target, or is before a word in quotes.
-const BEFORE_PATHS: [&str; 6] = ["\"", "'", "[[", "](", "](<", "]: "];
+// Whether a text has a mark right after a span.
+fn begins_after(text: &str, span: TextSpan, mark: &str) -> bool {
+    match text.get(span.end..) {
+        Some(after) => after.starts_with(mark),
+        None => false,
+    }
+}
+
+// What begins a target.
+const BEFORE_TARGETS: [&str; 4] = ["[[", "](", "](<", "]: "];

@@ -107,7 +107,7 @@ fn names_places_in_other_files(rt: HostRuntime) -> Result<(), Fail> {
 }
 
 // A file in which no old path is written.
-const NONE: [(&str, (&str, &str)); 8] = [
+const NONE: [(&str, (&str, &str)); 9] = [
     (
         "a longer path",
         ("site/m.txt", "old/guide/a.md guide/a.mdx xguide/a.md"),
@@ -121,6 +121,7 @@ const NONE: [(&str, (&str, &str)); 8] = [
     ("another extension", ("site/m.js", "guide/a.md")),
     ("a page that isn't read", ("site/.p.md", "guide/a.md")),
     ("another site", ("site/m.txt", "https://x.org/guide/a.md")),
+    ("words in quotes", ("site/guide/p.md", "\"a word\"\n")),
     ("the end of an element", ("site/m.html", "<a href=x>A</a>")),
 ];
 
