@@ -9,7 +9,8 @@ use Rattle.relmove_mentions.proofs.old_names.OldNames.find.Goals as goal
 
 pub returns-then-not-has_percent : goal.returns-then-not-has_percent
 returns-then-not-has_percent c = λ olds has.
-    Finds-plain olds c.args.file c.args.bytes.now (sym c.has_percent.ensures ∙ c.if-not-has_percent.true) (rw c.in_default.is at (c.in_ok-old.ensures olds has))
+    Finds-plain olds c.args.file c.args.bytes.now
+    (sym c.has_percent.ensures ∙ c.if-not-has_percent.true) (rw c.in_default.is at (c.in_ok-old.ensures olds has))
 
 pub returns : goal.returns
 returns c =
