@@ -137,6 +137,7 @@ module _ (m n : Moving) (same : HaveSame m n) where
     in_order = is.in_order;
     written = is.written;
     become = λ k d within. Becomes-same page (get_or is.written k d) (is.become k d within);
+    new = is.new;
     settled = is.settled;
     cause = is.cause;
     text_is = is.text_is;

@@ -12,7 +12,7 @@ use Rattle.relative_path_moves.specs.TreeMoves.{AtTreePath, IsLeftInPlace}
 use Rattle.target_paths.specs.declared.target.TargetSyntax.{TargetSyntax}
 use Rattle.target_paths.specs.Reading.{Meaning, not_relative, path_before, unknown, meaning}
 use Rattle.relative_path_links.specs.Targets.{target_text, HasTargets}
-use Rattle.relative_path_links.specs.Edits.{targets_of, IsSettled}
+use Rattle.relative_path_links.specs.Edits.{targets_of, IsGivenUp, IsSettled}
 use Rattle.relative_path_links.specs.Reading.{HasCause, HasText}
 use Rattle.relative_path_links.specs.Rewriter.{Moving, AtFile, Becomes, HasFileBy}
 use Rattle.relative_path_links.specs.declared.edit.Change.{Change}
@@ -23,14 +23,15 @@ use Rattle.relative_path_links.specs.declared.target.Target.{Target}
 use Rattle.relative_path_links.specs.declared.site.MovedSitePage.{MovedSitePage}
 use Rattle.relative_path_links.specs.declared.site.SitePage.{SitePage}
 
--- the page's edits are those of the rewriter, but for new targets with which the page would read otherwise; the page
--- changes to the text, which reads as the edits say
+-- the page's edits are those of the rewriter, which gives up no new target, but for new targets with which the page would read
+-- otherwise; the page changes to the text, which reads as the edits say
 pub record IsRewritten (finds : List ℕ → List Target → Type 0) (m : Moving) (page : List ℕ) (edits : List Edit)
     (text : Option (String Global)) : Type 0 where
   pub found : finds page (targets_of edits)
   pub in_order : HasTargets page 0 (targets_of edits)
   pub written : List Edit
   pub become : All (Becomes m page) written
+  pub new : All (λ edit. ¬ IsGivenUp edit.change) written
   pub settled : AllZip IsSettled written edits
   pub cause : HasCause finds page written edits
   pub text_is : HasText finds page edits text

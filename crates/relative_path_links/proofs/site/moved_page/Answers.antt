@@ -28,6 +28,7 @@ returns g c =
       in_order = subst (HasTargets page 0) (sym targets) c.in_ok-targets.ensures.in_order;
       written = written;
       become = c.in_ok-edits.ensures.changes;
+      new = c.in_ok-edits.ensures.new;
       settled = c.in_ok-settled.ensures.edits;
       cause = c.in_ok-settled.ensures.cause;
       text_is = c.in_ok-settled.ensures.text;
