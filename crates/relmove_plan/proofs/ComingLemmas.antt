@@ -3,10 +3,10 @@ use Rattle.std.proofs.Common.{Bool, ◌≡◌, ◌≢◌, ◌⊎◌, ℕ, ◌<�
 use Rattle.std.specs.List.{Any, AllPairs, join_with_byte}
 use Rattle.std.proofs.lemmas.Bool.{cases_order}
 use Rattle.std.proofs.lemmas.List.{get_or-append-add, get_or_default, length-append, length-map}
-use Rattle.relative_path.specs.Steps.{Step, name, slash}
+use Rattle.relative_path.specs.Steps.{Step, components, name, slash}
 use Rattle.relative_path.specs.Walk.{place_of}
 use Rattle.relative_path.specs.Normalizing.{IsNormalTextOf}
-use Rattle.relative_path.proofs.ForCallers.{IsSame-place, IsSame-sym, IsSame-trans}
+use Rattle.relative_path.proofs.ForCallers.{IsSame-place, IsSame-sym, IsSame-trans, components-place}
 use Rattle.relative_path_moves.specs.Moves.{Move, move_at}
 use Rattle.relative_path_places.specs.PlaceIndex.{IsNoneAt, path_at}
 use Rattle.relative_path_moves.specs.TreeMoves.{AtTreePath, IsTreePath}
@@ -14,6 +14,7 @@ use Rattle.relmove_checks.specs.declared.entry.Entry.{Entry}
 use Rattle.relmove_checks.specs.declared.name_rule.NameRule.{NameRule}
 use Rattle.relmove_trees.specs.FileTrees.{names_of}
 use Rattle.relmove_steps.specs.Actions.{ActionTexts, Carries, LeavesFrom, of_move, of_page, of_text, placed_names}
+use Rattle.relmove_plan.specs.ActionPaths.{IsNewPlace}
 use Rattle.relmove_plan.specs.WholeTrees.{IsAt}
 use Rattle.relmove_plan.proofs.CarriedLemmas.{HasNoName}
 use Rattle.relmove_plan.proofs.CarriedLemmas as carrying
@@ -42,10 +43,9 @@ pub record IsDestination (entries : List Entry) (moves : List Move) (changed : L
   pub some : place ≢ []
   pub named : names_of to ≡ place
   pub spelled : to ≡ join_with_byte slash place
+  pub plain : components to ≡ map name place
   pub ends : HasNoName entries place
-  pub why : ((k : ℕ) × (k < length moves) × (place_of (move_at moves k).new ≡ Some place))
-      ⊎ ((c : ℕ) × (c < length changed) × (target : List Step) × IsTreePath moves (path_at changed c) target
-      × (place_of target ≡ Some place))
+  pub why : IsNewPlace moves changed place
 
 module _ {entries : List Entry} {pages changed : List (List Step)} {moves : List Move} {rule : NameRule} {actions : ActionTexts}
     (run : IsKnownRun entries pages changed moves rule actions)
@@ -143,6 +143,7 @@ module _ {entries : List Entry} {pages changed : List (List Step)} {moves : List
               some = some;
               named = names_of-normal (move_at moves m).new carries.new top carries.new_of leads_2;
               spelled = spelled-place (move_at moves m).new carries.new top carries.new_of leads_2;
+              plain = components-place carries.new_of leads_2;
               ends = subst (HasNoName entries) (append-nil top) (arrivals.HasNoName-reserved run top [] some fine);
               why = inl (m, inside, leads_2);
             })
@@ -169,6 +170,7 @@ module _ {entries : List Entry} {pages changed : List (List Step)} {moves : List
           some = some;
           named = names_of-normal target other place normal leads;
           spelled = spelled-place target other place normal leads;
+          plain = components-place normal leads;
           ends = ends;
-          why = inr (c, inside, target, is, leads);
+          why = inr (c, inside, (target, is, leads));
         })

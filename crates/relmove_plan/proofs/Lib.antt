@@ -24,5 +24,6 @@ pub mod MovedTreesLemmas
 pub mod WholeRunsLemmas
 pub mod UnreadLemmas
 pub mod EmptiedLemmas
+pub mod ActionPathsLemmas
 pub mod RunsOnLemmas
 pub mod ForCallers

@@ -11,7 +11,7 @@ use Rattle.relative_path.specs.Normalizing.{IsNormalTextOf}
 use Rattle.relative_path.proofs.ForCallers.{IsSame-place, IsSame-sym, IsSame-trans, components-place, walk-names}
 use Rattle.relative_path_moves.specs.Moves.{Move, move_at}
 use Rattle.relative_path_places.specs.PlaceIndex.{IsNoneAt}
-use Rattle.relative_path_moves.specs.TreeMoves.{AtTreePath, IsTreePath, TakesAlong}
+use Rattle.relative_path_moves.specs.TreeMoves.{AtTreePath, IsTakenTo, IsTreePath, TakesAlong}
 use Rattle.relmove_checks.specs.declared.entry.Entry.{Entry}
 use Rattle.relmove_checks.specs.declared.name_rule.NameRule.{NameRule}
 use Rattle.relmove_checks.specs.Moves.{move_of}
@@ -283,6 +283,28 @@ module _ {entries : List Entry} {pages changed : List (List Step)} {moves : List
             down = takes.down;
           }
 
+      -- what the moves to the names take along comes to a name, or below it
+      taken_to : (cs target : List Step) (taken : IsTakenTo news cs target)
+          → place_of target ≡ Some (get_or staging taken.move [] ∷ taken.below)
+      taken_to cs target taken =
+          let j = taken.move in
+          let within : j < length moves = length-news j taken.nearest.takes.within in
+          let target_is : target ≡ map name (get_or staging j [] ∷ taken.below) =
+          taken.new ∙ ap (λ (move : Move). move.new ++ map name taken.below) (new_at j within)
+          ∙ ap (λ cs. cs ++ map name taken.below) (single_name j within) in
+          ap place_of target_is ∙ walk-names [] (get_or staging j [] ∷ taken.below)
+
+      -- a missing directory is made at a place, and not at the root
+      pub made-leads : (directory : List ℕ) (target : List Step) (missing : IsMissingAt moves after directory)
+          → IsTreePath news (components directory) target
+          → (place : List (List ℕ)) × (place ≢ []) × (place_of target ≡ Some place)
+      made-leads directory target missing (inl taken) = (
+        get_or staging taken.move [] ∷ taken.below,
+        λ none. cc none,
+        taken_to (components directory) target taken,
+      )
+      made-leads directory target missing (inr (left, same)) = (missing.place, missing.some, ap place_of same ∙ missing.leads)
+
       -- where a missing directory is made
       pub made-from : (directory made : List ℕ) (missing : IsMissingAt moves after directory) → IsTextTakenTo news directory made
           → IsMadeFrom moves staging missing.place (names_of made)
@@ -296,10 +318,6 @@ module _ {entries : List Entry} {pages changed : List (List Step)} {moves : List
           by (inl taken) =
               let j = taken.move in
               let place_is : taken.place ≡ missing.place = some_of (sym taken.leads ∙ missing.leads) in
-              let within : j < length moves = length-news j taken.nearest.takes.within in
-              let target_is : target ≡ map name (get_or staging j [] ∷ taken.below) =
-              taken.new ∙ ap (λ (move : Move). move.new ++ map name taken.below) (new_at j within)
-              ∙ ap (λ cs. cs ++ map name taken.below) (single_name j within) in
               IsMadeFrom.from_name j taken.below
               (new-takes missing.place j taken.below
               (subst (λ place. TakesAlong news place j taken.below) place_is taken.nearest.takes))
@@ -307,7 +325,7 @@ module _ {entries : List Entry} {pages changed : List (List Step)} {moves : List
               taken.nearest.nearest k others
               (subst (λ place. TakesAlong news place k others) (sym place_is) (takes-new missing.place k others under)))
               (names_of-normal target made (get_or staging j [] ∷ taken.below) made_is
-              (ap place_of target_is ∙ walk-names [] (get_or staging j [] ∷ taken.below)))
+              (taken_to (components directory) target taken))
 
       -- a directory that is made there comes to the missing one
       pub carried-made : (directory : List ℕ) (missing : IsMissingAt moves after directory) (made : List (List ℕ))

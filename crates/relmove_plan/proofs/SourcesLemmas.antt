@@ -56,6 +56,7 @@ pub record IsSource (entries : List Entry) (moves : List Move) (changed : List (
   pub some : place ≢ []
   pub named : names_of from ≡ place
   pub spelled : from ≡ join_with_byte slash place
+  pub plain : components from ≡ map name place
   pub leads : place_of (components from) ≡ Some place
   pub is_from : IsFrom entries moves changed names place
 
@@ -90,6 +91,7 @@ module _ (entries : List Entry) (pages : List (List Step)) (whole : IsWhole entr
         some = some;
         named = names_of-normal cs from place is leads;
         spelled = spelled-place cs from place is leads;
+        plain = components-place is leads;
         leads = sym (is.same.everywhere []) ∙ leads;
         is_from = is_from;
       }
@@ -141,6 +143,7 @@ module _ (entries : List Entry) (pages : List (List Step)) (whole : IsWhole entr
                       some = not_empty front n [];
                       named = names_of-names from place cs;
                       spelled = joined;
+                      plain = cs;
                       leads = ap place_of cs ∙ walk-names [] place;
                       is_from = IsFrom.from_file k within top front n last split refl none no_name_2;
                     }

@@ -31,7 +31,7 @@ pub record IsUnreadAt (place : Place) (entry : Entry) : Type 0 where
   pub kind : is_unread entry.kind ≡ true
   pub leads : place_of (components entry.path) ≡ Some place
 
--- the name is in no new path of a move. A name that isn't UTF-8 is in none
+-- no new path of a move has the name as a component. A name that isn't UTF-8 is in none
 abbrev pub IsInNoNewPath : List Move → List ℕ → Type 0
 IsInNoNewPath moves n =
     (k : ℕ) → k < length moves → (place : Place) → place_of (move_at moves k).new ≡ Some place → ¬ Contains place n
@@ -51,7 +51,7 @@ pub record IsBelowUnread (entries : List Entry) (moves : List Move) (place : Pla
   pub unread : IsUnread entries moves top n
 
 -- the tree has the entries and the pages' texts, what else it has is at or below names that the plan doesn't know, and
--- nothing is at the names that the actions make
+-- nothing is at staging names and at the files of new texts
 pub record AgreesWith (entries : List Entry) (pages : List SitePage) (moves : List Move) (actions : ActionTexts) (tree : Tree)
     : Type 0 where
   pub whole : IsWholeTree tree

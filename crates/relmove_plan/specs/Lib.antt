@@ -1,3 +1,4 @@
 pub mod WholeTrees
 pub mod MovedTrees
 pub mod KnownTrees
+pub mod ActionPaths

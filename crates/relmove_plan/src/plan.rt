@@ -2,12 +2,14 @@
 ghost use Rattle.std.specs.Prelude.{◌≡◌, IfErr, IfOk, OnOk, map, string_bytes};
 ghost use Rattle.relative_path_links.specs.Site.{AreRewritten, KeepTheirLinks};
 ghost use Rattle.relative_path_moves.specs.Moves.{moves_of};
+ghost use Rattle.relmove_checks.specs.Moves.{EachMove};
 ghost use Rattle.relmove_checks.specs.Plan.{AreAllowed, IsRefused};
 ghost use Rattle.relmove_checks.specs.Trees.{entry_paths};
-ghost use Rattle.relmove_steps.specs.Actions.{WritesPages, action_texts, staged_names};
+ghost use Rattle.relmove_steps.specs.Actions.{DoesMove, ReplacesPages, WritesPages, action_texts, staged_names};
 ghost use Rattle.relmove_steps.specs.NewFiles.{HaveOwnFiles};
 ghost use Rattle.relmove_steps.specs.Pages.{changed_paths, page_paths};
 ghost use Rattle.relmove_steps.specs.StagingNames.{AreFreeNames};
+ghost use Rattle.relmove_plan.specs.ActionPaths.{AreSpelled, DoNoMore};
 ghost use Rattle.relmove_plan.specs.KnownTrees.{RunsOn};
 ghost use Rattle.relmove_plan.specs.WholeTrees.{IsWhole};
 
@@ -64,7 +66,7 @@ pub fn make_plan<'a, F: Finder>(
         tree.entry.pages.now plan.pages.items) }
     // the moves pass each check
     ensures accepted { OnOk result (AreAllowed tree.entry.entries.now (moves_of moves.now) rule) }
-    // staging names are `.relmove-` and a number, all different, and no entry has one
+    // staging names are `.relmove-` and a number, all different, and no entry is at one
     ensures names { IfOk result (λ plan. AreFreeNames (entry_paths tree.entry.entries.now)
         (staged_names (action_texts plan.actions))) }
     // each new text has its own file, in the page's directory, where no entry is
@@ -73,11 +75,24 @@ pub fn make_plan<'a, F: Finder>(
     // new texts are of exactly the changed pages, in order
     ensures texts { IfOk result (λ plan. WritesPages
         (changed_paths tree.entry.pages.now plan.pages.items) (action_texts plan.actions)) }
+    // what moves comes to its new path, changed pages aside
+    ensures moved { IfOk result (λ plan. EachMove
+        (DoesMove (changed_paths tree.entry.pages.now plan.pages.items) (action_texts plan.actions)) (moves_of moves.now)) }
+    // a changed page's new text comes by its new file to the page's new path
+    ensures replaced { IfOk result (λ plan. ReplacesPages tree.entry.pages.now plan.pages.items (action_texts plan.actions)) }
     // on a whole tree that agrees with entries and pages the actions can be done, and end in the tree after the moves
     ensures run { IfOk result (λ plan. IsWhole tree.entry.entries.now (page_paths tree.entry.pages.now)
         → RunsOn tree.entry.entries.now tree.entry.pages.now plan.pages.items (moves_of moves.now)
         (action_texts plan.actions) (map string_bytes plan.actions.made.items)
         (map string_bytes plan.actions.emptied.items)) }
+    // if entries are whole, each path of the actions is names with a slash between two: no `.`, no `..`, no other slash
+    ensures spelled { IfOk result (λ plan. IsWhole tree.entry.entries.now (page_paths tree.entry.pages.now)
+        → AreSpelled (action_texts plan.actions) (map string_bytes plan.actions.made.items)
+        (map string_bytes plan.actions.emptied.items)) }
+    // if entries are whole, nothing leaves, comes or is emptied but for moves and changed pages, and that once
+    ensures only { IfOk result (λ plan. IsWhole tree.entry.entries.now (page_paths tree.entry.pages.now)
+        → DoNoMore (moves_of moves.now) (changed_paths tree.entry.pages.now plan.pages.items) plan.pages.items
+        (action_texts plan.actions) (map string_bytes plan.actions.emptied.items)) }
     // refusals but `OutOfMemory` are of the first failed check, and its first move or entry
     ensures refused { IfErr result (IsRefused tree.entry.entries.now (moves_of moves.now) rule) }
 {

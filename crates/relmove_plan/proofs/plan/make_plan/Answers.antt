@@ -1,5 +1,5 @@
 -- What is accepted, or refused, of moves that may leave.
-use Rattle.std.proofs.Common.{map, string_bytes, subst}
+use Rattle.std.proofs.Common.{All, map, string_bytes, subst}
 use Rattle.std.proofs.lemmas.List.Elements.{All-map}
 use Rattle.std.proofs.lemmas.Slice.Zip.{AllZip-long}
 use Rattle.relative_path_links.specs.Site.{ForMovedPage, KeepsLinks}
@@ -7,13 +7,14 @@ use Rattle.relative_path_moves.specs.Moves.{moves_of}
 use Rattle.relative_path_places.specs.PlaceIndex.{Indexes}
 use Rattle.relmove_checks.proofs.ForCallers.{IfErr-error}
 use Rattle.relmove_checks.specs.Trees.{entry_paths}
-use Rattle.relmove_steps.specs.Directories.{IsLeftBehindByMove, MakesMissing}
+use Rattle.relmove_steps.specs.Directories.{AreAllLeftBehind, IsLeftBehindByMove, MakesMissing}
 use Rattle.relmove_steps.specs.NewFiles.{LeaveFromEntries, LeaveOnce}
 use Rattle.relmove_steps.specs.Pages.{changed_paths, page_paths}
 use Rattle.relmove_steps.specs.Actions.{action_texts}
 use Rattle.relmove_plan.specs.WholeTrees.{IsWhole}
 use Rattle.relmove_plan.proofs.LeavingLemmas.{LeaveFromEntries-whole}
-use Rattle.relmove_plan.proofs.PlannedLemmas.{IsPlanned, AreAfter-only}
+use Rattle.relmove_plan.proofs.PlannedLemmas.{IsPlanned, AreAfter-only, known}
+use Rattle.relmove_plan.proofs.ActionPathsLemmas.{AreSpelled-run, DoNoMore-run}
 use Rattle.relmove_plan.proofs.RunsOnLemmas.{RunsOn-plan}
 use Rattle.relative_path.specs.Steps.{components}
 use Rattle.relmove_plan.proofs.plan.make_plan.Goals as goal
@@ -54,6 +55,12 @@ returns-clause-files g c =
 
 pub returns-clause-texts : goal.returns-clause-texts
 returns-clause-texts g c = rw c.deref.ensures.value at c.in_ok-actions.ensures.texts
+
+pub returns-clause-moved : goal.returns-clause-moved
+returns-clause-moved g c = rw (c.deref.ensures.value, c.in_ok-table.ensures.table) at c.in_ok-actions.ensures.moved
+
+pub returns-clause-replaced : goal.returns-clause-replaced
+returns-clause-replaced g c = rw c.deref.ensures.value at c.in_ok-actions.ensures.replaced
 
 -- entries are where something leaves
 from_entries : (g : _) (c : goal.After-drop-index-2 g) → IsWhole c.args.tree.entries.now (page_paths c.args.tree.pages.now)
@@ -105,12 +112,36 @@ makes g c whole =
     (AreAfter-only (moves_of c.args.moves.now) c.args.tree.entries.now after accepted.apart.after
     accepted.apart.come.leave.apart are accepted.apart.are_after) has)
 
+-- the directories that may be emptied were above old paths
+left : (g : _) (c : goal.After-drop-index-2 g)
+    → All (IsLeftBehindByMove (moves_of c.args.moves.now) (moves_of c.args.moves.now))
+    (map string_bytes c.in_ok-actions.actions.emptied.items)
+left g c =
+    All-map (IsLeftBehindByMove (moves_of c.args.moves.now) (moves_of c.args.moves.now)) string_bytes
+    c.in_ok-actions.actions.emptied.items (rw c.in_ok-table.ensures.table at c.in_ok-actions.ensures.left)
+
+-- all directories that are left behind may be emptied, and no others
+left_all : (g : _) (c : goal.After-drop-index-2 g) → IsWhole c.args.tree.entries.now (page_paths c.args.tree.pages.now)
+    → AreAllLeftBehind (moves_of c.args.moves.now) (moves_of c.args.moves.now) c.in_ok-pages.pages.items
+    (map string_bytes c.in_ok-actions.actions.emptied.items)
+left_all g c whole =
+    (rw (c.deref.ensures.value, c.in_ok-table.ensures.table) at c.in_ok-actions.ensures.all)
+    (planned g c whole).accepted.apart.come.leave.apart
+
 pub returns-clause-run : goal.returns-clause-run
 returns-clause-run g c = λ whole.
-    let emptied = c.in_ok-actions.actions.emptied.items in
-    RunsOn-plan (planned g c whole) (map string_bytes c.in_ok-actions.actions.made.items) (map string_bytes emptied)
-    (makes g c whole) c.in_ok-actions.ensures.emptied c.in_ok-actions.ensures.different
-    (All-map (IsLeftBehindByMove (moves_of c.args.moves.now) (moves_of c.args.moves.now)) string_bytes emptied
-    (rw c.in_ok-table.ensures.table at c.in_ok-actions.ensures.left))
-    ((rw (c.deref.ensures.value, c.in_ok-table.ensures.table) at c.in_ok-actions.ensures.all)
-    (planned g c whole).accepted.apart.come.leave.apart)
+    RunsOn-plan (planned g c whole) (map string_bytes c.in_ok-actions.actions.made.items)
+    (map string_bytes c.in_ok-actions.actions.emptied.items) (makes g c whole) c.in_ok-actions.ensures.emptied
+    c.in_ok-actions.ensures.different (left g c) (left_all g c whole)
+
+pub returns-clause-spelled : goal.returns-clause-spelled
+returns-clause-spelled g c = λ whole.
+    AreSpelled-run (known (planned g c whole)) (map components (planned g c whole).accepted.apart.after)
+    (map string_bytes c.in_ok-actions.actions.made.items) (map string_bytes c.in_ok-actions.actions.emptied.items)
+    (makes g c whole) (left g c)
+
+pub returns-clause-only : goal.returns-clause-only
+returns-clause-only g c = λ whole.
+    DoNoMore-run (known (planned g c whole)) c.in_ok-pages.pages.items
+    (map string_bytes c.in_ok-actions.actions.emptied.items) (left g c) (left_all g c whole) c.in_ok-actions.ensures.different
+    c.in_ok-actions.ensures.emptied
