@@ -60,14 +60,7 @@ directory_of entries place (e, entry, within, is, at) = (e, entry, within, is, r
 -- what isn't read is in the root or in a directory of the tree
 held_by : (entries : List Entry) (moves : List Move) (top : Place) (n : List ℕ) → IsUnread entries moves top n
     → (top ≡ []) ⊎ HasDirectoryAt entries top
-held_by entries moves top n unread = elim unread.hidden [ inl at ↦ inr (directory_of entries top at) | inr (held, in_no_path) ↦ held ]
-
--- what a list has, it has with others before and after it
-Contains-append : {X : Type 0} (xs after before : List X) (x : X) → Contains xs x → Contains ((before ++ xs) ++ after) x
-Contains-append xs after [] x (k, within, is) =
-    (k, rw length-append (omega (arith, within)), get_or_append_left xs after x k within ∙ is)
-Contains-append xs after (y ∷ before) x has =
-    let (k, within, is) = Contains-append xs after before x has in (suc k, omega (arith, within), is)
+held_by entries moves top n unread = elim unread.hidden [ inl at ↦ inr (directory_of entries top at) | inr (held, out_of_the_way) ↦ held ]
 
 -- where the moves take what is below the top
 pub record ComesAlong (moves : List Move) (actions : ActionTexts) (top : Place) (n : List ℕ) (rest place : Place) : Type 0 where
@@ -370,9 +363,8 @@ module _ {entries : List Entry} {pages changed : List (List Step)} {moves : List
     -- no new path is at the end of the name, or below
     not_new : (k : ℕ) → k < length moves → (below : Place) → place_of (move_at moves k).new ≢ Some (named_end ++ below)
     not_new k within below leads = elim it.unread.hidden [
-      | inr (held, in_no_path) ↦
-          in_no_path k within (named_end ++ below) leads
-          (Contains-append (it.n ∷ []) below along.top_end it.n (0, omega arith, refl))
+      | inr (held, out_of_the_way) ↦
+          out_of_the_way named_end below k named_taken within leads
       | inl at ↦
           let (normal, normal_of, clear) = run.accepted.below_no_unread k within in
           clear (record {

@@ -1,5 +1,5 @@
 -- The trees that agree with what a plan knows, and what the plan's actions make of them.
-use Rattle.std.specs.Prelude.{◌≡◌, ◌⊎◌, ◌<◌, ℕ, Bool, true, false, List, [], ◌∷◌, ◌++◌, Contains, map, length, Some, None, IfSome, IsSome, string_bytes}
+use Rattle.std.specs.Prelude.{◌≡◌, ◌≢◌, ◌⊎◌, ◌<◌, ℕ, Bool, true, false, List, [], ◌∷◌, ◌++◌, Contains, map, length, Some, None, IfSome, IsSome, string_bytes}
 use Rattle.std.specs.List.{All, AllZip, Any}
 use Rattle.relative_path.specs.Steps.{components, name}
 use Rattle.relative_path.specs.Walk.{place_of}
@@ -12,7 +12,7 @@ use Rattle.relmove_checks.specs.Trees.{is_unread}
 use Rattle.relmove_steps.specs.Actions.{ActionTexts, staged_names}
 use Rattle.relmove_steps.specs.Pages.{changed_paths}
 use Rattle.relmove_trees.specs.FileTrees.{Directory, File, IsWholeTree, Place, Tree, names_of}
-use Rattle.relmove_plan.specs.MovedTrees.{IsCleared, IsLeftBehind, IsMoved}
+use Rattle.relmove_plan.specs.MovedTrees.{AreTakenTo, IsCleared, IsLeftBehind, IsMoved}
 use Rattle.relmove_trees.specs.TreeActions.{Action, Clear, LeadTo, Make, Remove, Rename, Write}
 use Rattle.relmove_plan.specs.WholeTrees.{HasDirectoryAt, IsAt}
 
@@ -31,16 +31,16 @@ pub record IsUnreadAt (place : Place) (entry : Entry) : Type 0 where
   pub kind : is_unread entry.kind ≡ true
   pub leads : place_of (components entry.path) ≡ Some place
 
--- no new path of a move has the name as a component. A name that isn't UTF-8 is in none
-abbrev pub IsInNoNewPath : List Move → List ℕ → Type 0
-IsInNoNewPath moves n =
-    (k : ℕ) → k < length moves → (place : Place) → place_of (move_at moves k).new ≡ Some place → ¬ Contains place n
+-- no new path of a move is at the place to which the moves take this one, or below. So it is where a name isn't UTF-8
+abbrev pub IsOutOfTheWay : List Move → Place → Type 0
+IsOutOfTheWay moves place = (to rest : Place) (k : ℕ) → AreTakenTo moves place to → k < length moves
+    → place_of (move_at moves k).new ≢ Some (to ++ rest)
 
 -- no entry is at the name. It is in a directory that isn't read; or it is in another directory of the entries or in the
--- root, and in no new path
+-- root, and out of the way of new paths
 pub record IsUnread (entries : List Entry) (moves : List Move) (top : Place) (n : List ℕ) : Type 0 where
   pub none : (b : Bool) → ¬ Any (IsAt b (top ++ n ∷ [])) entries
-  pub hidden : Any (IsUnreadAt top) entries ⊎ ((top ≡ []) ⊎ HasDirectoryAt entries top) × IsInNoNewPath moves n
+  pub hidden : Any (IsUnreadAt top) entries ⊎ ((top ≡ []) ⊎ HasDirectoryAt entries top) × IsOutOfTheWay moves (top ++ n ∷ [])
 
 -- the place is at or below such a name
 pub record IsBelowUnread (entries : List Entry) (moves : List Move) (place : Place) : Type 0 where
