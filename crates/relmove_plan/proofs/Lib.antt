@@ -26,4 +26,5 @@ pub mod UnreadLemmas
 pub mod EmptiedLemmas
 pub mod ActionPathsLemmas
 pub mod RunsOnLemmas
+pub mod SomeTreesLemmas
 pub mod ForCallers
