@@ -40,7 +40,8 @@ IsOutOfTheWay moves place = (to rest : Place) (k : ℕ) → AreTakenTo moves pla
 -- root, and out of the way of new paths
 pub record IsUnread (entries : List Entry) (moves : List Move) (top : Place) (n : List ℕ) : Type 0 where
   pub none : (b : Bool) → ¬ Any (IsAt b (top ++ n ∷ [])) entries
-  pub hidden : Any (IsUnreadAt top) entries ⊎ ((top ≡ []) ⊎ HasDirectoryAt entries top) × IsOutOfTheWay moves (top ++ n ∷ [])
+  pub hidden : Any (IsUnreadAt top) entries
+      ⊎ (((top ≡ []) ⊎ HasDirectoryAt entries top) × IsOutOfTheWay moves (top ++ n ∷ []))
 
 -- the place is at or below such a name
 pub record IsBelowUnread (entries : List Entry) (moves : List Move) (place : Place) : Type 0 where
@@ -50,8 +51,8 @@ pub record IsBelowUnread (entries : List Entry) (moves : List Move) (place : Pla
   pub split : place ≡ (top ++ n ∷ []) ++ rest
   pub unread : IsUnread entries moves top n
 
--- the tree has the entries and the pages' texts, what else it has is at or below names that the plan doesn't know, and
--- nothing is at staging names and at the files of new texts
+-- each entry is there: a directory, a page with its text, or anything else; what else is there is at or below names that the
+-- plan doesn't know; and nothing is at staging names and at the files of new texts
 pub record AgreesWith (entries : List Entry) (pages : List SitePage) (moves : List Move) (actions : ActionTexts) (tree : Tree)
     : Type 0 where
   pub whole : IsWholeTree tree
