@@ -78,7 +78,7 @@ pub record IsMovedTarget (m : Moving) (syntax : TargetSyntax) (path tail text : 
   pub read : meaning syntax text ≡ path_before (path_written new) (length (target_of new))
 
 -- a target that is this path and then the tail is left for this reason although the path no longer leads to its file: the
--- file is above the root, no path leads there, the new path has a NUL, or the page would read otherwise with a new target
+-- file is above the root, no path leads there, the new path has a NUL, or there is a new target, which is given up
 abbrev pub LeavesPath : Moving → TargetSyntax → List ℕ → List ℕ → Unchanged → Type 0
 LeavesPath m syntax path tail AboveRoot = AtLostFile m path ClimbsAbove
 LeavesPath m syntax path tail NoPath = AtLostFile m path (BelowTop (λ file. ¬ IsReachable m.after file))
