@@ -1,14 +1,13 @@
--- The paths of a plan's actions spell their names, and there are no more actions than the moves and new texts need.
-use Rattle.std.proofs.Common.{All, AllPairs, Contains, List, [], ◌∷◌, ◌++◌, Some, ap, arith, get_or, length, map, refl, subst, sym, ℕ, ◌+◌, ◌<◌, ◌∙◌, ◌≡◌, ◌≢◌}
+-- The paths of a plan's actions spell their names.
+use Rattle.std.proofs.Common.{All, Contains, List, [], ◌∷◌, ◌++◌, Some, ap, arith, get_or, length, map, refl, subst, sym, ℕ, ◌+◌, ◌<◌, ◌∙◌, ◌≡◌, ◌≢◌}
 use Rattle.std.specs.List.{AllZip, join_with_byte}
 use Rattle.std.proofs.lemmas.List.Elements.{All-cons, All-tail}
-use Rattle.std.proofs.lemmas.List.{get_or-append-add, get_or-map, get_or_default, length-append, length-map}
+use Rattle.std.proofs.lemmas.List.{get_or-append-add, get_or_default, length-append, length-map}
 use Rattle.relative_path.proofs.ForCallers.{components-place}
 use Rattle.relative_path.proofs.OnLiterals.{relative_path_on_literals}
 use Rattle.relative_path.specs.Normalizing.{AreNames, IsNormalTextOf}
 use Rattle.relative_path.specs.Steps.{Step, components, name, slash, spell}
 use Rattle.relative_path.specs.Walk.{place_of}
-use Rattle.relative_path_links.specs.declared.site.MovedSitePage.{MovedSitePage}
 use Rattle.relative_path_moves.specs.Moves.{Move}
 use Rattle.relative_path_places.specs.PlaceIndex.{path_at}
 use Rattle.relmove_checks.specs.declared.entry.Entry.{Entry}
@@ -20,12 +19,11 @@ use Rattle.relmove_plan.proofs.EmptiedLemmas as emptying
 use Rattle.relmove_plan.proofs.KnownRunsLemmas.{IsKnownRun}
 use Rattle.relmove_plan.proofs.MadeLemmas as directories
 use Rattle.relmove_plan.proofs.SourcesLemmas.{IsSource, IsSource-leaves, element}
-use Rattle.relmove_plan.proofs.TreeRemovesLemmas.{Contains-among}
 use Rattle.relmove_plan.proofs.WaysLemmas as ways
 use Rattle.relmove_plan.proofs.WholeTreesLemmas.{map_none}
-use Rattle.relmove_plan.specs.ActionPaths.{AreSpelled, DoNoMore, IsNewPlace, SpellsNames}
-use Rattle.relmove_steps.specs.Actions.{ActionTexts, BelowFirst, LeavesFrom, of_page, of_text, placed_names, staged_names}
-use Rattle.relmove_steps.specs.Directories.{AreAllLeftBehind, IsLeftBehindByMove, IsMissingText, IsTextTakenTo, MakesMissing, moves_to_names}
+use Rattle.relmove_plan.specs.ActionPaths.{AreSpelled, SpellsNames}
+use Rattle.relmove_steps.specs.Actions.{ActionTexts, LeavesFrom, of_page, of_text, placed_names, staged_names}
+use Rattle.relmove_steps.specs.Directories.{IsLeftBehindByMove, IsMissingText, IsTextTakenTo, MakesMissing, moves_to_names}
 use Rattle.relmove_trees.specs.FileTrees.{Place, names_of}
 
 AreNames-names : (place : Place) → AreNames (map name place)
@@ -147,27 +145,4 @@ module _ {entries : List Entry} {pages changed : List (List Step)} {moves : List
       placed = placed_spelled;
       removed = removed_spelled;
       emptied = λ k d within. left_spelled (get_or emptied k d) (left k d within);
-    }
-
-    pub DoNoMore-run : (news : List MovedSitePage) (emptied : List (List ℕ)) → All (IsLeftBehindByMove moves moves) emptied
-        → AreAllLeftBehind moves moves news emptied → AllPairs (λ one other. one ≢ other) emptied → BelowFirst emptied
-        → DoNoMore moves changed news actions emptied
-    DoNoMore-run news emptied left all different order = record {
-      leave = run.only;
-      kept = run.nothing_lost;
-      come = λ k d within.
-          let (step, is) = element actions.placed k within in
-          let to = destination_at k step within is in
-          subst (λ (step : List ℕ × List ℕ). IsNewPlace moves changed (names_of step.1))
-          (sym (get_or_default actions.placed k d step within ∙ is))
-          (subst (IsNewPlace moves changed) (sym to.named) to.why);
-      left = λ k d within.
-          emptying.among-left run news emptied left all (names_of (get_or emptied k d))
-          (Contains-among (map names_of emptied) (names_of (get_or emptied k d)) (
-            k,
-            rw length-map within,
-            get_or-map names_of emptied k d (names_of (get_or emptied k d)) within,
-          ));
-      different = different;
-      order = order;
     }

@@ -14,7 +14,6 @@ use Rattle.relmove_checks.specs.declared.entry.Entry.{Entry}
 use Rattle.relmove_checks.specs.declared.name_rule.NameRule.{NameRule}
 use Rattle.relmove_trees.specs.FileTrees.{names_of}
 use Rattle.relmove_steps.specs.Actions.{ActionTexts, Carries, LeavesFrom, of_move, of_page, of_text, placed_names}
-use Rattle.relmove_plan.specs.ActionPaths.{IsNewPlace}
 use Rattle.relmove_plan.specs.WholeTrees.{IsAt}
 use Rattle.relmove_plan.proofs.CarriedLemmas.{HasNoName}
 use Rattle.relmove_plan.proofs.CarriedLemmas as carrying
@@ -45,7 +44,9 @@ pub record IsDestination (entries : List Entry) (moves : List Move) (changed : L
   pub spelled : to ≡ join_with_byte slash place
   pub plain : components to ≡ map name place
   pub ends : HasNoName entries place
-  pub why : IsNewPlace moves changed place
+  pub why : ((k : ℕ) × (k < length moves) × (place_of (move_at moves k).new ≡ Some place))
+      ⊎ ((c : ℕ) × (c < length changed) × (target : List Step) × IsTreePath moves (path_at changed c) target
+      × (place_of target ≡ Some place))
 
 module _ {entries : List Entry} {pages changed : List (List Step)} {moves : List Move} {rule : NameRule} {actions : ActionTexts}
     (run : IsKnownRun entries pages changed moves rule actions)
@@ -172,5 +173,5 @@ module _ {entries : List Entry} {pages changed : List (List Step)} {moves : List
           spelled = spelled-place target other place normal leads;
           plain = components-place normal leads;
           ends = ends;
-          why = inr (c, inside, (target, is, leads));
+          why = inr (c, inside, target, is, leads);
         })

@@ -634,7 +634,7 @@ module _ {entries : List Entry} {pages changed : List (List Step)} {moves : List
                   let some : front ≢ [] = λ none. not_empty [] n place (sym is_2 ∙ none) in
                   inr (elim to.why [
                     | inl (k, inside, new) ↦ held-move some k inside new
-                    | inr (c, inside, (target, target_is, leads)) ↦ held-page some c inside target target_is leads
+                    | inr (c, inside, target, target_is, leads) ↦ held-page some c inside target target_is leads
                   ])
 
         -- no directory that was made is there

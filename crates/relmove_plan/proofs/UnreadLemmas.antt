@@ -580,7 +580,7 @@ module _ {entries : List Entry} {pages changed : List (List Step)} {moves : List
         → carried (take m (coming actions)) (carried (leaving actions) place) ≢ names_of step.1
     not_come m step within is comes = elim to.why [
       | inl (k, inside, leads) ↦ not_new k inside it.rest (leads ∙ ap Some (sym ends_there ∙ end_is))
-      | inr (c, inside, (target, target_is, leads)) ↦ page_apart c inside target target_is (leads ∙ ap Some (sym ends_there))
+      | inr (c, inside, target, target_is, leads) ↦ page_apart c inside target target_is (leads ∙ ap Some (sym ends_there))
     ]
       where
         to : IsDestination entries moves changed step.1

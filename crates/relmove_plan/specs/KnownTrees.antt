@@ -26,7 +26,7 @@ tree_actions actions made emptied =
     ++ map (λ path. Remove (names_of path)) actions.removed
     ++ map (λ path. Clear (names_of path)) emptied
 
--- an entry that is a directory that isn't read is at the place
+-- the entry is a directory that isn't read, and is at the place
 pub record IsUnreadAt (place : Place) (entry : Entry) : Type 0 where
   pub kind : is_unread entry.kind ≡ true
   pub leads : place_of (components entry.path) ≡ Some place
@@ -36,8 +36,8 @@ abbrev pub IsOutOfTheWay : List Move → Place → Type 0
 IsOutOfTheWay moves place = (to rest : Place) (k : ℕ) → AreTakenTo moves place to → k < length moves
     → place_of (move_at moves k).new ≢ Some (to ++ rest)
 
--- no entry is at the name. It is in a directory that isn't read; or it is in another directory of the entries or in the
--- root, and out of the way of new paths
+-- no entry has this name below the top. The top is a directory that isn't read; or it is the root or any directory of the
+-- entries, and the name is out of the way of new paths
 pub record IsUnread (entries : List Entry) (moves : List Move) (top : Place) (n : List ℕ) : Type 0 where
   pub none : (b : Bool) → ¬ Any (IsAt b (top ++ n ∷ [])) entries
   pub hidden : Any (IsUnreadAt top) entries
@@ -51,8 +51,8 @@ pub record IsBelowUnread (entries : List Entry) (moves : List Move) (place : Pla
   pub split : place ≡ (top ++ n ∷ []) ++ rest
   pub unread : IsUnread entries moves top n
 
--- each entry is there: a directory, a page with its text, or anything else; what else is there is at or below names that the
--- plan doesn't know; and nothing is at staging names and at the files of new texts
+-- a directory is at each entry that is one, its text at each page, and something at each other entry; what else is there is at
+-- or below names that the plan doesn't know; and nothing is at staging names and at the files of new texts
 pub record AgreesWith (entries : List Entry) (pages : List SitePage) (moves : List Move) (actions : ActionTexts) (tree : Tree)
     : Type 0 where
   pub whole : IsWholeTree tree
@@ -71,13 +71,13 @@ pub record HasTexts (pages : List SitePage) (news : List MovedSitePage) (tree no
       → now place ≡ Some (File (string_bytes text)))) pages news
   pub others : (place : Place) → IsNoneAt (changed_paths pages news) (map name place) → now place ≡ tree place
 
--- the tree is the one after the moves, without the directories that are left and hold nothing else
+-- the tree is the one after the moves, without the directories that are left behind and hold nothing but such
 pub record IsAfterMoves (moves : List Move) (news : List MovedSitePage) (now end : Tree) : Type 0 where
   pub moved : Tree
   pub are_moved : IsMoved moves now moved
   pub cleared : IsCleared (IsLeftBehind moves news) moved end
 
--- whoever does the actions on a tree that agrees can do each, and comes to the tree after the moves
+-- whoever does the actions on a tree that agrees can do each, and comes to that tree
 abbrev pub RunsOn : List Entry → List SitePage → List MovedSitePage → List Move → ActionTexts → List (List ℕ)
     → List (List ℕ)
     → Type 0

@@ -8,7 +8,8 @@ use Rattle.relative_path_moves.specs.Moves.{Move, move_at}
 use Rattle.relative_path_moves.specs.TreeMoves.{AtTreePath}
 use Rattle.relmove_trees.specs.FileTrees.{Directory, Place, Tree}
 
--- the nearest move takes what is at the one place to the other; what no move takes stays
+-- the move with the longest old path that is at the one place or above takes what is there to the other; what no move takes
+-- stays
 abbrev pub AreTakenTo : List Move → Place → Place → Type 0
 AreTakenTo moves from to = AtTreePath moves (map name from) (λ target. place_of target ≡ Some to)
 
@@ -29,12 +30,13 @@ pub record IsMoved (moves : List Move) (now end : Tree) : Type 0 where
   pub only : (to : Place) → IsSome (end to)
       → ((from : Place) × IsSome (now from) × AreTakenTo moves from to) ⊎ IsAboveNew moves to
 
--- a link of a page leads to what is at the place after the moves
+-- the file of a link of a page, as it was before the moves, is at the place after them
 abbrev pub IsLinkedAt : List Move → List MovedSitePage → Place → Type 0
 IsLinkedAt moves news place = Any (λ new. Any (λ edit. (file : List ℕ) × (edit.file ≡ Some file)
     × AtTreePath moves (components file) (λ target. place_of target ≡ Some place)) new.edits.items) news
 
--- at the place is, after the moves, a directory that was above an old path and isn't the root, and no link leads there
+-- at the place is, after the moves, a directory that was above an old path and isn't the root, also if it moved itself, and no
+-- link leads there
 pub record IsLeftBehind (moves : List Move) (news : List MovedSitePage) (place : Place) : Type 0 where
   pub from : Place
   pub some : from ≢ []

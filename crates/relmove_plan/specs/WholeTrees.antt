@@ -1,4 +1,4 @@
--- Trees that are whole: each directory above an entry is an entry too.
+-- Entries that are whole: each directory above an entry is an entry too.
 use Rattle.std.specs.Prelude.{◌≡◌, ◌⊎◌, ℕ, Bool, true, false, List, [], ◌∷◌, ◌++◌, Some}
 use Rattle.std.specs.List.{All, Any}
 use Rattle.relative_path.specs.Steps.{Step, components}
@@ -15,7 +15,7 @@ pub record IsAt (directory : Bool) (place : List (List ℕ)) (entry : Entry) : T
 abbrev pub HasDirectoryAt : List Entry → List (List ℕ) → Type 0
 HasDirectoryAt entries place = Any (IsAt true place) entries
 
--- the entry is directly in the root, or in a directory of the tree
+-- the entry is directly in the root, or in a directory that is an entry
 pub record IsHeld (entries : List Entry) (entry : Entry) : Type 0 where
   pub directory : List (List ℕ)
   pub name : List ℕ
@@ -28,7 +28,8 @@ pub record LeadsToFile (entries : List Entry) (cs : List Step) : Type 0 where
   pub leads : place_of cs ≡ Some place
   pub file : Any (IsAt false place) entries
 
--- each entry is held, and no two are at one place; each page is at a place of its own, and is no directory
+-- each entry is held, and no two are at one place; at each page is an entry that is no directory, and no two pages are at
+-- one place
 pub record IsWhole (entries : List Entry) (pages : List (List Step)) : Type 0 where
   pub held : All (IsHeld entries) entries
   pub distinct : AreDistinct (entry_paths entries)

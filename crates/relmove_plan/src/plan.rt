@@ -80,7 +80,7 @@ pub fn make_plan<'a, F: Finder>(
         (DoesMove (changed_paths tree.entry.pages.now plan.pages.items) (action_texts plan.actions)) (moves_of moves.now)) }
     // a changed page's new text comes by its new file to the page's new path
     ensures replaced { IfOk result (λ plan. ReplacesPages tree.entry.pages.now plan.pages.items (action_texts plan.actions)) }
-    // on a whole tree that agrees with entries and pages the actions can be done, and end in the tree after the moves
+    // if entries are whole, on each tree that agrees with them the actions can be done, and end in the tree after the moves
     ensures run { IfOk result (λ plan. IsWhole tree.entry.entries.now (page_paths tree.entry.pages.now)
         → RunsOn tree.entry.entries.now tree.entry.pages.now plan.pages.items (moves_of moves.now)
         (action_texts plan.actions) (map string_bytes plan.actions.made.items)
@@ -89,9 +89,9 @@ pub fn make_plan<'a, F: Finder>(
     ensures spelled { IfOk result (λ plan. IsWhole tree.entry.entries.now (page_paths tree.entry.pages.now)
         → AreSpelled (action_texts plan.actions) (map string_bytes plan.actions.made.items)
         (map string_bytes plan.actions.emptied.items)) }
-    // if entries are whole, nothing leaves, comes or is emptied but for moves and changed pages, and that once
-    ensures only { IfOk result (λ plan. IsWhole tree.entry.entries.now (page_paths tree.entry.pages.now)
-        → DoNoMore (moves_of moves.now) (changed_paths tree.entry.pages.now plan.pages.items) plan.pages.items
+    // nothing leaves or is emptied but for moves and changed pages; what leaves comes or is removed, once
+    ensures only { IfOk result (λ plan. DoNoMore (moves_of moves.now)
+        (changed_paths tree.entry.pages.now plan.pages.items) plan.pages.items
         (action_texts plan.actions) (map string_bytes plan.actions.emptied.items)) }
     // refusals but `OutOfMemory` are of the first failed check, and its first move or entry
     ensures refused { IfErr result (IsRefused tree.entry.entries.now (moves_of moves.now) rule) }

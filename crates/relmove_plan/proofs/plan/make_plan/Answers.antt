@@ -14,7 +14,7 @@ use Rattle.relmove_steps.specs.Actions.{action_texts}
 use Rattle.relmove_plan.specs.WholeTrees.{IsWhole}
 use Rattle.relmove_plan.proofs.LeavingLemmas.{LeaveFromEntries-whole}
 use Rattle.relmove_plan.proofs.PlannedLemmas.{IsPlanned, AreAfter-only, known}
-use Rattle.relmove_plan.proofs.ActionPathsLemmas.{AreSpelled-run, DoNoMore-run}
+use Rattle.relmove_plan.proofs.ActionPathsLemmas.{AreSpelled-run}
 use Rattle.relmove_plan.proofs.RunsOnLemmas.{RunsOn-plan}
 use Rattle.relative_path.specs.Steps.{components}
 use Rattle.relmove_plan.proofs.plan.make_plan.Goals as goal
@@ -121,18 +121,18 @@ left g c =
     c.in_ok-actions.actions.emptied.items (rw c.in_ok-table.ensures.table at c.in_ok-actions.ensures.left)
 
 -- all directories that are left behind may be emptied, and no others
-left_all : (g : _) (c : goal.After-drop-index-2 g) → IsWhole c.args.tree.entries.now (page_paths c.args.tree.pages.now)
+left_all : (g : _) (c : goal.After-drop-index-2 g)
     → AreAllLeftBehind (moves_of c.args.moves.now) (moves_of c.args.moves.now) c.in_ok-pages.pages.items
     (map string_bytes c.in_ok-actions.actions.emptied.items)
-left_all g c whole =
+left_all g c =
     (rw (c.deref.ensures.value, c.in_ok-table.ensures.table) at c.in_ok-actions.ensures.all)
-    (planned g c whole).accepted.apart.come.leave.apart
+    ((rw c.in_ok-table.ensures.table at c.in_ok-after.ensures.fine) c.args.rule c.in_ok-table.ensures.fine).apart.come.leave.apart
 
 pub returns-clause-run : goal.returns-clause-run
 returns-clause-run g c = λ whole.
     RunsOn-plan (planned g c whole) (map string_bytes c.in_ok-actions.actions.made.items)
     (map string_bytes c.in_ok-actions.actions.emptied.items) (makes g c whole) c.in_ok-actions.ensures.emptied
-    c.in_ok-actions.ensures.different (left g c) (left_all g c whole)
+    c.in_ok-actions.ensures.different (left g c) (left_all g c)
 
 pub returns-clause-spelled : goal.returns-clause-spelled
 returns-clause-spelled g c = λ whole.
@@ -141,7 +141,11 @@ returns-clause-spelled g c = λ whole.
     (makes g c whole) (left g c)
 
 pub returns-clause-only : goal.returns-clause-only
-returns-clause-only g c = λ whole.
-    DoNoMore-run (known (planned g c whole)) c.in_ok-pages.pages.items
-    (map string_bytes c.in_ok-actions.actions.emptied.items) (left g c) (left_all g c whole) c.in_ok-actions.ensures.different
-    c.in_ok-actions.ensures.emptied
+returns-clause-only g c = record {
+  leave = rw (c.deref.ensures.value, c.in_ok-table.ensures.table) at c.in_ok-actions.ensures.only;
+  kept = c.in_ok-actions.ensures.kept;
+  left = left g c;
+  all = left_all g c;
+  different = c.in_ok-actions.ensures.different;
+  order = c.in_ok-actions.ensures.emptied;
+}
