@@ -13,9 +13,8 @@ use Rattle.relative_path_places.specs.PlaceIndex.{path_at}
 use Rattle.relmove_checks.specs.declared.entry.Entry.{Entry}
 use Rattle.relmove_checks.specs.declared.name_rule.NameRule.{NameRule}
 use Rattle.relmove_plan.proofs.CarriedLemmas as carrying
-use Rattle.relmove_plan.proofs.ComingLemmas as destinations
-use Rattle.relmove_plan.proofs.ComingLemmas.{IsDestination}
 use Rattle.relmove_plan.proofs.EmptiedLemmas as emptying
+use Rattle.relmove_plan.proofs.FreeWaysLemmas as free_ways
 use Rattle.relmove_plan.proofs.KnownRunsLemmas.{IsKnownRun}
 use Rattle.relmove_plan.proofs.MadeLemmas as directories
 use Rattle.relmove_plan.proofs.SourcesLemmas.{IsSource, IsSource-leaves, element}
@@ -68,18 +67,10 @@ module _ {entries : List Entry} {pages changed : List (List Step)} {moves : List
         spells from src.place src.some src.plain (src.spelled ∙ ap (join_with_byte slash) (sym src.named))
 
     name_spelled : (name : List ℕ) → Contains (staged_names actions) name → SpellsNames name
-    name_spelled n (i, within, is) = spells-single n (subst (λ n. components n ≡ name n ∷ []) is (run.single i n within))
+    name_spelled n has = spells-single n (carrying.staging_single run n has)
 
     come_spelled : (name : List ℕ) → Contains (placed_names actions ++ actions.removed) name → SpellsNames name
-    come_spelled n (i, within, is) =
-        spells-single n (subst (λ n. components n ≡ name n ∷ []) is (carrying.single_come run i n within))
-
-    destination_at : (m : ℕ) (step : List ℕ × List ℕ) → m < length actions.placed → get_or actions.placed m step ≡ step
-        → IsDestination entries moves changed step.1
-    destination_at m step within is =
-        let (l, other, within_2, is_2, same) = ways.left_before run m step within is in
-        destinations.destination run other.0 step.0 step.1 (ways.leaves run l other within_2 is_2)
-        (l, within_2, subst (λ b. get_or actions.staged l (other.0, b) ≡ (other.0, b)) same is_2) (m, within, is)
+    come_spelled n has = spells-single n (carrying.staging_single run n (carrying.come_left run n has))
 
     texts_spelled : All (λ new. SpellsNames new.0 × SpellsNames new.1) actions.texts
     texts_spelled k d within = by (get_or actions.texts k d) refl
@@ -99,16 +90,16 @@ module _ {entries : List Entry} {pages changed : List (List Step)} {moves : List
         let here : get_or actions.staged k d ≡ step = get_or_default actions.staged k d step within ∙ is in
         subst (λ (step : List ℕ × List ℕ). SpellsNames step.0 × SpellsNames step.1) (sym here) (
           leaves_spelled step.0 (ways.leaves run k step within is),
-          name_spelled step.1 (k, rw length-map within, carrying.left_at run k step step.1 within is),
+          name_spelled step.1 (carrying.has_name run k step within is),
         )
 
     placed_spelled : All (λ step. SpellsNames step.0 × SpellsNames step.1) actions.placed
     placed_spelled k d within =
         let (step, is) = element actions.placed k within in
         let here : get_or actions.placed k d ≡ step = get_or_default actions.placed k d step within ∙ is in
-        let to = destination_at k step within is in
+        let to = free_ways.destination run k step within is in
         subst (λ (step : List ℕ × List ℕ). SpellsNames step.0 × SpellsNames step.1) (sym here) (
-          come_spelled step.0 (k, carrying.inside run k within, carrying.come_at run k step step.0 within is),
+          name_spelled step.0 (carrying.come_name run k step within is),
           spells step.1 to.place to.some to.plain (to.spelled ∙ ap (join_with_byte slash) (sym to.named)),
         )
 

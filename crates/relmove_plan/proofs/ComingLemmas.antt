@@ -1,10 +1,10 @@
 -- The renames from staging names: none of those names is where such a rename leads to, or above it.
-use Rattle.std.proofs.Common.{Bool, ◌≡◌, ◌≢◌, ◌⊎◌, ℕ, ◌<◌, ◌+◌, List, [], Contains, Some, length, map, get_or, inl, inr, refl, sym, ap, subst, ◌∙◌, append-nil, arith}
-use Rattle.std.specs.List.{Any, AllPairs, join_with_byte}
+use Rattle.std.proofs.Common.{◌≡◌, ◌≢◌, ◌⊎◌, ℕ, ◌<◌, ◌+◌, List, [], Contains, Some, length, map, get_or, inl, inr, refl, sym, ap, subst, ◌∙◌, append-nil, arith}
+use Rattle.std.specs.List.{AllPairs, join_with_byte}
 use Rattle.std.proofs.lemmas.Bool.{cases_order}
 use Rattle.std.proofs.lemmas.List.{get_or-append-add, get_or_default, length-append, length-map}
 use Rattle.relative_path.specs.Steps.{Step, components, name, slash}
-use Rattle.relative_path.specs.Walk.{place_of}
+use Rattle.relative_path.specs.Walk.{place_of, IsSame}
 use Rattle.relative_path.specs.Normalizing.{IsNormalTextOf}
 use Rattle.relative_path.proofs.ForCallers.{IsSame-place, IsSame-sym, IsSame-trans, components-place}
 use Rattle.relative_path_moves.specs.Moves.{Move, move_at}
@@ -13,15 +13,14 @@ use Rattle.relative_path_moves.specs.TreeMoves.{AtTreePath, IsTreePath}
 use Rattle.relmove_checks.specs.declared.entry.Entry.{Entry}
 use Rattle.relmove_checks.specs.declared.name_rule.NameRule.{NameRule}
 use Rattle.relmove_trees.specs.FileTrees.{names_of}
-use Rattle.relmove_steps.specs.Actions.{ActionTexts, Carries, LeavesFrom, of_move, of_page, of_text, placed_names}
-use Rattle.relmove_plan.specs.WholeTrees.{IsAt}
+use Rattle.relmove_steps.specs.Actions.{ActionTexts, Carries, LeavesFrom, RemovesAt, of_move, of_page, of_text, placed_names, CarriesMove}
 use Rattle.relmove_plan.proofs.CarriedLemmas.{HasNoName}
 use Rattle.relmove_plan.proofs.CarriedLemmas as carrying
 use Rattle.relmove_plan.proofs.ArrivalsLemmas as arrivals
 use Rattle.relmove_plan.proofs.KnownRunsLemmas.{IsKnownRun}
 use Rattle.relmove_plan.proofs.FirstsLemmas.{one_at_or}
 use Rattle.relmove_plan.proofs.PlacesLemmas.{names_of-normal, spelled-place}
-use Rattle.relmove_plan.proofs.SourcesLemmas.{IsThere-place, element}
+use Rattle.relmove_plan.proofs.SourcesLemmas.{element}
 use Rattle.relmove_plan.proofs.WholeTreesLemmas.{IsSame-one_place}
 
 -- elements with equal keys are one element, if no two elements have the same key
@@ -81,6 +80,16 @@ module _ {entries : List Entry} {pages changed : List (List Step)} {moves : List
         ap (λ (step : List ℕ × List ℕ). step.1)
         (one_by_key (λ (step : List ℕ × List ℕ). step.0) actions.staged run.once (from, one) (from, other) has has_2 refl)
 
+    -- what is removed where it leaves from doesn't come
+    not_removed : (cs : List Step) → RemovesAt actions cs → (from staging to : List ℕ) → IsNormalTextOf cs from
+        → Contains actions.staged (from, staging) → Contains actions.placed (staging, to) → ⊥
+    not_removed cs gone from staging to normal left comes =
+        let here : from ≡ gone.old = gone.old_of.only from normal.normal_text normal.same in
+        let same : gone.removes.staging ≡ staging =
+        left_one from gone.removes.staging staging
+        (subst (λ old. Contains actions.staged (old, gone.removes.staging)) (sym here) gone.removes.leaves) left in
+        come_kept staging to comes (subst (Contains actions.removed) same gone.removes.removed)
+
     -- a thing comes to one path
     carries_one : (from staging to other : List ℕ) → Contains actions.staged (from, staging)
         → Contains actions.placed (staging, to) → Carries actions from other → other ≡ to
@@ -114,26 +123,33 @@ module _ {entries : List Entry} {pages changed : List (List Step)} {moves : List
 
     -- ---- where the renames lead
 
-    -- an entry is one of the pages that change, or none of them
-    pub changed_or : (b : Bool) (place : List (List ℕ)) → Any (IsAt b place) entries
+    -- one of the pages that change is at the place, or none of them
+    pub changed_or : (place : List (List ℕ))
         → IsNoneAt changed (map name place) ⊎ ((k : ℕ) × (k < length changed) × (place_of (path_at changed k) ≡ Some place))
-    changed_or b place at = one_at_or changed (λ k d within. let file = run.files k d within in (file.place, file.leads)) place
+    changed_or place = one_at_or changed (λ k d within. let file = run.files k d within in (file.place, file.leads)) place
+
+    -- a move carries what is at its old path, or that is one of these pages
+    pub move_or : (m : ℕ) → m < length moves
+        → CarriesMove actions (move_at moves m)
+        ⊎ ((c : ℕ) × (c < length changed) × IsSame (path_at changed c) (move_at moves m).old)
+    move_or m inside =
+        let (b, place, leads, at) = carrying.old_place run m inside in
+        elim (changed_or place) [
+          | inl none ↦
+              inl ((run.moved m inside).carries (λ c within same. none c within (IsSame-trans (IsSame-sym (IsSame-place leads)) same)))
+          | inr (c, within, leads_2) ↦ inr (c, within, IsSame-one_place place leads_2 leads)
+        ]
 
     -- where a rename from a staging name leads to
     pub destination : (from staging to : List ℕ) → LeavesFrom moves changed actions.texts from
         → Contains actions.staged (from, staging) → Contains actions.placed (staging, to)
         → IsDestination entries moves changed to
-    destination from staging to (of_move m inside normal) left comes =
-        let (b, place, leads, at) =
-        IsThere-place entries pages run.whole (move_at moves m).old (run.accepted.apart.come.leave.olds m inside).there in
-        by b place leads at (changed_or b place at)
+    destination from staging to (of_move m inside normal) left comes = by (move_or m inside)
       where
-        by : (b : Bool) (place : List (List ℕ)) → place_of (move_at moves m).old ≡ Some place → Any (IsAt b place) entries
-            → IsNoneAt changed (map name place) ⊎ ((k : ℕ) × (k < length changed) × (place_of (path_at changed k) ≡ Some place))
+        by : CarriesMove actions (move_at moves m)
+            ⊎ ((c : ℕ) × (c < length changed) × IsSame (path_at changed c) (move_at moves m).old)
             → IsDestination entries moves changed to
-        by b place leads at (inl none) =
-            let carries = (run.moved m inside).carries
-            (λ k within same. none k within (IsSame-trans (IsSame-sym (IsSame-place leads)) same)) in
+        by (inl carries) =
             let (top, leads_2, some, fine) = arrivals.new_place run m inside in
             let here : from ≡ carries.old = carries.old_of.only from normal.normal_text normal.same in
             let to_is : carries.new ≡ to =
@@ -148,20 +164,11 @@ module _ {entries : List Entry} {pages changed : List (List Step)} {moves : List
               ends = subst (HasNoName entries) (append-nil top) (arrivals.HasNoName-reserved run top [] some fine);
               why = inl (m, inside, leads_2);
             })
-        by b place leads at (inr (k, within, leads_2)) =
-            let gone = (run.moved m inside).removes (λ none. none k within (IsSame-one_place place leads leads_2)) in
-            let here : from ≡ gone.old = gone.old_of.only from normal.normal_text normal.same in
-            let same : gone.removes.staging ≡ staging =
-            left_one from gone.removes.staging staging
-            (subst (λ old. Contains actions.staged (old, gone.removes.staging)) (sym here) gone.removes.leaves) left in
-            absurd (come_kept staging to comes (subst (Contains actions.removed) same gone.removes.removed))
+        by (inr (c, within, same)) =
+            let gone = (run.moved m inside).removes (λ none. none c within (IsSame-sym same)) in
+            absurd (not_removed (move_at moves m).old gone from staging to normal left comes)
     destination from staging to (of_page c inside normal) left comes =
-        let gone = run.removed c [] inside in
-        let here : from ≡ gone.old = gone.old_of.only from normal.normal_text normal.same in
-        let same : gone.removes.staging ≡ staging =
-        left_one from gone.removes.staging staging
-        (subst (λ old. Contains actions.staged (old, gone.removes.staging)) (sym here) gone.removes.leaves) left in
-        absurd (come_kept staging to comes (subst (Contains actions.removed) same gone.removes.removed))
+        absurd (not_removed (path_at changed c) (run.removed c [] inside) from staging to normal left comes)
     destination from staging to (of_text old text has) left comes =
         let (c, inside, old_of, other, carries, goes) = file_carries (old, from, text) has in
         let (target, is, normal) = goes in

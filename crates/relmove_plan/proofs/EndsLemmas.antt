@@ -1,12 +1,10 @@
 -- What is above a new path after the moves: a directory of the tree, or nothing; and where such a directory is before the
 -- renames of `placed`.
-use Rattle.std.proofs.Common.{All, Bool, true, false, true≢false, ◌≡◌, ◌≢◌, ◌⊎◌, ℕ, ◌<◌, ◌≤◌, ◌+◌, List, [], ◌∷◌, ◌++◌, Some, length, map, drop, get_or, inl, inr, refl, sym, ap, subst, ◌∙◌, append_assoc, append-nil, not, arith}
+use Rattle.std.proofs.Common.{All, Bool, true, false, true≢false, ◌≡◌, ◌≢◌, ◌⊎◌, ℕ, ◌<◌, ◌≤◌, ◌+◌, List, [], ◌∷◌, ◌++◌, Some, length, map, get_or, inl, inr, refl, sym, ap, subst, ◌∙◌, append_assoc, append-nil, not, arith}
 use Rattle.std.specs.List.{Any}
-use Rattle.std.proofs.Math.Seq.{drop-append_seam}
 use Rattle.std.proofs.lemmas.Bool.{cases_lt}
-use Rattle.std.proofs.lemmas.List.{get_or-map, get_or_default, length-append, length-map}
+use Rattle.std.proofs.lemmas.List.{get_or-map, get_or_default, length-append, length-map, append_cancel_left}
 use Rattle.std.proofs.lemmas.List.Elements.{All-map}
-use Rattle.std.proofs.lemmas.Slice.Zip.{AllZip-long}
 use Rattle.relative_path.specs.Steps.{Step, name, components}
 use Rattle.relative_path.specs.Walk.{place_of}
 use Rattle.relative_path.proofs.ForCallers.{IsSame-refl, walk-names}
@@ -15,7 +13,7 @@ use Rattle.relative_path_places.specs.PlaceIndex.{IsNoneAt, path_at}
 use Rattle.relative_path_moves.specs.TreeMoves.{IsLeftInPlace, IsTakenTo, IsTreePath, TakesAlong}
 use Rattle.relmove_checks.specs.declared.entry.Entry.{Entry}
 use Rattle.relmove_checks.specs.declared.name_rule.NameRule.{NameRule}
-use Rattle.relmove_checks.specs.Trees.{IsAfter, entry_paths, is_directory}
+use Rattle.relmove_checks.specs.Trees.{entry_paths, is_directory}
 use Rattle.relmove_steps.specs.Directories.{LeaveToNames}
 use Rattle.relmove_plan.proofs.RunWords.{carried, renames_of}
 use Rattle.relmove_steps.specs.Actions.{ActionTexts}
@@ -23,13 +21,16 @@ use Rattle.relmove_plan.specs.WholeTrees.{IsAt}
 use Rattle.relmove_plan.proofs.KnownRunsLemmas.{IsKnownRun}
 use Rattle.relmove_plan.proofs.CarriedLemmas.{leaving}
 use Rattle.relmove_plan.proofs.ArrivalsLemmas as arrivals
+use Rattle.relmove_plan.proofs.CarriedLemmas as carrying
 use Rattle.relmove_plan.proofs.FirstsLemmas.{one_at_or}
 use Rattle.relmove_plan.proofs.FreeWaysLemmas as ways
 use Rattle.relmove_plan.proofs.MadeLemmas.{IsMadeFrom, IsUnderNew}
 use Rattle.relmove_plan.proofs.MadeLemmas as directories
 use Rattle.relmove_plan.proofs.RunsLemmas.{IsUnder-shorter}
-use Rattle.relmove_plan.proofs.SourcesLemmas.{IsThere-place, element, first_of}
+use Rattle.relmove_plan.proofs.SourcesLemmas.{element, first_of}
 use Rattle.relmove_plan.proofs.WholeTreesLemmas.{HasDirectoryAt-above, IsAt-one, IsSame-one_place, held_at, not_empty, path_at-entry, some_of}
+use Rattle.relmove_plan.proofs.TakenLemmas.{takes-more, IsNearest-above, IsLeftInPlace-above, AreTakenTo-target, IsTakenTo-above}
+use Rattle.relmove_plan.specs.MovedTrees.{AreTakenTo}
 
 -- a directory of the tree comes to the place
 pub record IsDirectoryTo (entries : List Entry) (after : List (List ℕ)) (end : List (List ℕ)) : Type 0 where
@@ -41,16 +42,6 @@ pub record IsDirectoryTo (entries : List Entry) (after : List (List ℕ)) (end :
   pub at : IsAt true start entry
   pub arrives : place_of (components (get_or after number [])) ≡ Some end
 
--- what takes a place along takes along what is below it
-pub takes-more : (moves : List Move) (place whole below others : List (List ℕ)) (k : ℕ) → TakesAlong moves place k others
-    → whole ≡ place ++ below → TakesAlong moves whole k (others ++ below)
-takes-more moves place whole below others k takes is = record {
-  within = takes.within;
-  top = takes.top;
-  old = takes.old;
-  down = is ∙ ap (λ top. top ++ below) takes.down ∙ append_assoc takes.top others below;
-}
-
 module _ {entries : List Entry} {pages changed : List (List Step)} {moves : List Move} {rule : NameRule} {actions : ActionTexts}
     (run : IsKnownRun entries pages changed moves rule actions)
   where
@@ -59,34 +50,34 @@ module _ {entries : List Entry} {pages changed : List (List Step)} {moves : List
 
     -- ---- the places of entries after the moves
 
-    pub target-leads : (cs target : List Step) (start : List (List ℕ)) → place_of cs ≡ Some start → IsTreePath moves cs target
-        → (place : List (List ℕ)) × (place_of target ≡ Some place)
-    target-leads cs target start leads (inl taken) =
-        let j = taken.move in
-        let (top, new, some, fine) = arrivals.new_place run j taken.nearest.takes.within in
-        (top ++ taken.below, ap place_of taken.new ∙ arrivals.place-below run (move_at moves j).new top taken.below new)
-    target-leads cs target start leads (inr (left, same)) = (start, ap place_of same ∙ leads)
-
     after-leads : (e : ℕ) (entry : Entry) → e < length entries → get_or entries e entry ≡ entry
         → (place : List (List ℕ)) × (place_of (components (get_or after e [])) ≡ Some place)
     after-leads e entry within is =
         let held = held_at entries pages run.whole e entry within is in
         let (target, target_is, normal) = ways.after_is run e entry within is in
-        let (place, leads) =
-        target-leads (components entry.path) target (held.directory ++ held.name ∷ []) held.leads target_is in
+        let (place, leads, some, free) =
+        arrivals.entry_place run (is_directory entry.kind) (components entry.path) target (held.directory ++ held.name ∷ [])
+        held.leads (e, entry, within, is, record { kind = refl; leads = held.leads }) target_is in
         (place, sym (normal.same.everywhere []) ∙ leads)
-
-    pub long : length after ≡ length entries
-    long = AllZip-long (IsAfter moves) entries after run.accepted.apart.are_after
 
     all-lead : All (λ cs. (p : List (List ℕ)) × (place_of cs ≡ Some p)) (map components after)
     all-lead =
         All-map (λ cs. (p : List (List ℕ)) × (place_of cs ≡ Some p)) components after
         (λ e d l.
+        let long = ways.long run in
         let within : e < length entries = omega (arith, l, long) in
         let (entry, is) = element entries e within in
         subst (λ text. (p : List (List ℕ)) × (place_of (components text) ≡ Some p)) (get_or_default after e [] d l)
         (after-leads e entry within is))
+
+    -- where the moves take an entry
+    pub entry_taken : (b : Bool) (from : List (List ℕ)) → Any (IsAt b from) entries
+        → (to : List (List ℕ)) × AreTakenTo moves from to
+    entry_taken b from (e, entry, within, is, at) =
+        let (target, target_is, normal) = ways.after_is run e entry within is in
+        let (to, there, some, free) =
+        arrivals.entry_place run b (components entry.path) target from at.leads (e, entry, within, is, at) target_is in
+        (to, AreTakenTo-target moves (components entry.path) target from to at.leads target_is there)
 
     -- what comes to above a new path is a directory
     directory-above : (k : ℕ) → k < length moves → (front rest : List (List ℕ))
@@ -123,6 +114,7 @@ module _ {entries : List Entry} {pages changed : List (List Step)} {moves : List
         by (inl none) = inl none
         by (inr (e, inside, leads)) =
             let within_2 : e < length after = rw length-map at inside in
+            let long = ways.long run in
             let within_3 : e < length entries = omega (arith, within_2, long) in
             let (entry, is) = element entries e within_3 in
             let held = held_at entries pages run.whole e entry within_3 is in
@@ -145,22 +137,24 @@ module _ {entries : List Entry} {pages changed : List (List Step)} {moves : List
     -- ---- directories of the tree
 
     -- a directory is no page that changes
-    pub directory-unchanged : (cs : List Step) (start : List (List ℕ)) → place_of cs ≡ Some start → Any (IsAt true start) entries
-        → IsNoneAt changed cs
-    directory-unchanged cs start leads at c within same =
+    pub directory-unchanged : (start : List (List ℕ)) → Any (IsAt true start) entries → IsNoneAt changed (map name start)
+    directory-unchanged start at c within same =
         let file = run.files c [] within in
-        let here : file.place ≡ start = some_of (sym file.leads ∙ sym (same.everywhere []) ∙ leads) in
+        let here : file.place ≡ start = some_of (sym file.leads ∙ sym (same.everywhere []) ∙ walk-names [] start) in
         true≢false (IsAt-one entries pages run.whole true false start at
         (subst (λ place. Any (IsAt false place) entries) here file.file))
+
+    directory-moved : (start : List (List ℕ)) → Any (IsAt true start) entries
+        → arrivals.IsMovedAlong entries changed moves actions start
+    directory-moved start at =
+        arrivals.IsMovedAlong-entry run true start at (directory-unchanged start at)
 
     -- it comes to where the moves take it
     pub carried-directory : (cs target : List Step) (start end : List (List ℕ)) → place_of cs ≡ Some start
         → Any (IsAt true start) entries → IsTreePath moves cs target → place_of target ≡ Some end
         → carried (renames_of actions) start ≡ end
     carried-directory cs target start end leads at target_is arrives =
-        let come = arrivals.ComesTo-target run true cs start leads at (directory-unchanged cs start leads at) target target_is in
-        ap (carried (renames_of actions)) (some_of (sym leads ∙ come.leaves)) ∙ come.carries
-        ∙ some_of (sym come.arrives ∙ arrives)
+        arrivals.carried-target run cs start leads (directory-moved start at) target target_is end arrives
 
     pub carried-to : (end : List (List ℕ)) (to : IsDirectoryTo entries after end) → carried (renames_of actions) to.start ≡ end
     carried-to end to =
@@ -172,37 +166,41 @@ module _ {entries : List Entry} {pages changed : List (List Step)} {moves : List
 
     -- the entry at the old path of a move comes to its new path
     pub moved-entry : (k : ℕ) → k < length moves → (top : List (List ℕ)) → place_of (move_at moves k).new ≡ Some top
-        → (g : ℕ) × (g < length entries) × (place : List (List ℕ)) × (place_of (path_at (entry_paths entries) g) ≡ Some place)
-        × (place_of (move_at moves k).old ≡ Some place) × (place_of (components (get_or after g [])) ≡ Some top)
+        → (g : ℕ) × (g < length entries) × (place_of (components (get_or after g [])) ≡ Some top)
     moved-entry k within top new =
-        let (b, place, old, (g, entry, inside, is, at)) =
-        IsThere-place entries pages run.whole (move_at moves k).old (run.accepted.apart.come.leave.olds k within).there in
+        let (b, place, old, (g, entry, inside, is, at)) = carrying.old_place run k within in
         let (target, target_is, arrives) =
         directories.AtTreePath-move run k (components entry.path) place top within at.leads old new in (
           g,
           inside,
-          place,
-          ap place_of (path_at-entry entries g entry inside is) ∙ at.leads,
-          old,
           ways.after_leads run g entry (components entry.path) target top inside is
               (IsSame-refl (components entry.path)) target_is arrives,
         )
 
-    -- so what comes to a new path is at the old path of its move
-    pub takes-itself : (k : ℕ) → k < length moves → (top : List (List ℕ)) → place_of (move_at moves k).new ≡ Some top
-        → (f : ℕ) (entry : Entry) → f < length entries → get_or entries f entry ≡ entry → (place : List (List ℕ))
-        → place_of (components entry.path) ≡ Some place → (target : List Step)
-        → IsTreePath moves (components entry.path) target → place_of target ≡ Some top → TakesAlong moves place k []
-    takes-itself k within top new f entry inside is place leads target target_is arrives =
-        let (g, inside_2, place_2, leads_2, old, arrives_2) = moved-entry k within top new in
-        let arrives_3 : place_of (components (get_or after f [])) ≡ Some top =
-        ways.after_leads run f entry (components entry.path) target top inside is
-        (IsSame-refl (components entry.path)) target_is arrives in
-        let same : f ≡ g = ways.after_one run f g top inside inside_2 arrives_3 arrives_2 in
-        let here : place ≡ place_2 =
-        some_of (sym (ap place_of (path_at-entry entries f entry inside is) ∙ leads)
-        ∙ ap (λ e. place_of (path_at (entry_paths entries) e)) same ∙ leads_2) in
-        record { within = within; top = place_2; old = old; down = here ∙ sym (append-nil place_2) }
+    -- two entries aren't taken to one place
+    pub entries_one : (b c : Bool) (p q t : List (List ℕ)) → Any (IsAt b p) entries → Any (IsAt c q) entries → AreTakenTo moves p t
+        → AreTakenTo moves q t → p ≡ q
+    entries_one b c p q t (e, entry, within, is, at) (f, other, within_2, is_2, at_2) (target, target_is, leads)
+        (target_2, target_is_2, leads_2) =
+        let arrives = ways.after_leads run e entry (map name p) target t within is
+        (IsSame-one_place p (walk-names [] p) at.leads) target_is leads in
+        let arrives_2 = ways.after_leads run f other (map name q) target_2 t within_2 is_2
+        (IsSame-one_place q (walk-names [] q) at_2.leads) target_is_2 leads_2 in
+        let same : e ≡ f = ways.after_one run e f t within within_2 arrives arrives_2 in
+        some_of
+        (sym (ap place_of (path_at-entry entries e entry within is) ∙ at.leads)
+        ∙ ap (λ e. place_of (path_at (entry_paths entries) e)) same
+        ∙ ap place_of (path_at-entry entries f other within_2 is_2) ∙ at_2.leads)
+
+    -- so what is taken to a new path is at the old path of its move
+    takes-itself : (k : ℕ) → k < length moves → (top : List (List ℕ)) → place_of (move_at moves k).new ≡ Some top → (b : Bool)
+        (place : List (List ℕ)) → Any (IsAt b place) entries → AreTakenTo moves place top → TakesAlong moves place k []
+    takes-itself k within top new b place at taken =
+        let (c, old, leads, at_2) = carrying.old_place run k within in
+        let here : place ≡ old =
+        entries_one b c place old top at at_2 taken
+        (directories.AtTreePath-move run k (map name old) old top within (walk-names [] old) leads new) in
+        record { within = within; top = old; old = leads; down = here ∙ sym (append-nil old) }
 
     -- an entry is where a front of the place of an entry leads
     front-entry : (b : Bool) (front below : List (List ℕ)) → Any (IsAt b (front ++ below)) entries → front ≢ []
@@ -220,18 +218,12 @@ module _ {entries : List Entry} {pages changed : List (List Step)} {moves : List
         let top = under.top in
         let some : top ≢ [] = λ none. (arrivals.new_place run j under.within).2
         (some_of (sym (arrivals.new_place run j under.within).1 ∙ under.leads) ∙ none) in
-        let (c, (f, entry, inside, is, there)) =
-        front-entry true top below (subst (λ place. Any (IsAt true place) entries) under.down at) some in
-        let stays : IsLeftInPlace moves (components entry.path) =
-        λ place k others leads_2 takes.
-        left start k (others ++ below) leads
-        (takes-more moves place start below others k takes
-        (under.down ∙ ap (λ top. top ++ below) (some_of (sym there.leads ∙ leads_2)))) in
+        let (c, at_2) = front-entry true top below (subst (λ place. Any (IsAt true place) entries) under.down at) some in
+        let stays : IsLeftInPlace moves (map name top) =
+        IsLeftInPlace-above moves cs (map name top) start top below leads (walk-names [] top) under.down left in
         left start j ([] ++ below) leads
         (takes-more moves top start below [] j
-        (takes-itself j under.within top under.leads f entry inside is top there.leads (components entry.path)
-        (inr (stays, refl)) there.leads)
-        under.down)
+        (takes-itself j under.within top under.leads c top at_2 (map name top, inr (stays, refl), walk-names [] top)) under.down)
 
     -- of the new paths at a directory that is moved, or above it, that of its move is the nearest
     nearest-new : (cs target : List Step) (start end : List (List ℕ)) → place_of cs ≡ Some start → Any (IsAt true start) entries
@@ -253,42 +245,25 @@ module _ {entries : List Entry} {pages changed : List (List Step)} {moves : List
         by : (first : List (List ℕ)) × (under.top ≡ new ++ first) → ⊥
         by (first, top_is) =
             let below_is : taken.below ≡ first ++ others =
-            sym (drop-append_seam new taken.below)
-            ∙ ap (drop (length new)) (sym end_is ∙ under.down ∙ ap (λ top. top ++ others) top_is ∙ append_assoc new first others)
-            ∙ drop-append_seam new (first ++ others) in
+            append_cancel_left new taken.below (first ++ others)
+            (sym end_is ∙ under.down ∙ ap (λ top. top ++ others) top_is ∙ append_assoc new first others) in
             let long_first = ap length below_is ∙ length-append first others in
             let some_first : first ≢ [] = λ none. absurd (let empty = ap length none in omega (arith, empty, long_first, less)) in
-            let place_is : start ≡ taken.place = some_of (sym leads ∙ taken.leads) in
             let start_is : start ≡ (top ++ first) ++ others =
-            place_is ∙ taken.nearest.takes.down ∙ ap (λ below. top ++ below) below_is ∙ sym (append_assoc top first others) in
+            some_of (sym leads ∙ taken.leads) ∙ taken.nearest.takes.down ∙ ap (λ below. top ++ below) below_is
+            ∙ sym (append_assoc top first others) in
             let (n, ns, first_is) = first_of first some_first in
             let some : top ++ first ≢ [] = λ none. not_empty top n ns (ap (λ first. top ++ first) (sym first_is) ∙ none) in
-            let (c, (f, entry, inside, is, there)) =
+            let (c, at_2) =
             front-entry true (top ++ first) others (subst (λ place. Any (IsAt true place) entries) start_is at) some in
-            let near : (l : ℕ) (rest : List (List ℕ)) → TakesAlong moves (top ++ first) l rest → length first ≤ length rest =
-            λ l rest takes.
-            let more : length taken.below ≤ length (rest ++ others) =
-            taken.nearest.nearest l (rest ++ others)
-            (takes-more moves (top ++ first) taken.place others rest l takes (sym place_is ∙ start_is)) in
-            let long_rest = length-append rest others in
-            omega (arith, more, long_rest, long_first) in
-            let target_is : IsTreePath moves (components entry.path) ((move_at moves taken.move).new ++ map name first) =
-            inl (record {
-              place = top ++ first;
-              leads = there.leads;
-              move = taken.move;
-              below = first;
-              nearest = record {
-                takes = record { within = taken.nearest.takes.within; top = top; old = taken.nearest.takes.old; down = refl };
-                nearest = near;
-              };
-              new = refl;
-            }) in
+            let near = IsNearest-above moves taken.place taken.below first others taken.move taken.nearest below_is in
             let none : length first ≤ 0 =
-            near k []
-            (takes-itself k under.within under.top under.leads f entry inside is (top ++ first) there.leads
-            ((move_at moves taken.move).new ++ map name first) target_is
-            (arrivals.place-below run (move_at moves taken.move).new new first new_leads ∙ ap Some (sym top_is))) in
+            near.nearest k []
+            (takes-itself k under.within under.top under.leads c (top ++ first) at_2 (
+              (move_at moves taken.move).new ++ map name first,
+              inl (IsTakenTo-above moves cs (map name (top ++ first)) target taken first others below_is (walk-names [] (top ++ first))),
+              arrivals.place-below run (move_at moves taken.move).new new first new_leads ∙ ap Some (sym top_is),
+            )) in
             let count = ap length first_is in
             absurd (omega (arith, none, count))
 
@@ -306,9 +281,6 @@ module _ {entries : List Entry} {pages changed : List (List Step)} {moves : List
           at : Any (IsAt true to.start) entries
           at = (to.number, to.entry, to.within, to.is, to.at)
 
-          unchanged : IsNoneAt changed cs
-          unchanged = directory-unchanged cs to.start to.at.leads at
-
           by : (target : List Step) → IsTreePath moves cs target → place_of target ≡ Some end
               → IsMadeFrom moves staging end (carried (leaving actions) to.start)
           by target (inr (left, same)) leads =
@@ -316,21 +288,18 @@ module _ {entries : List Entry} {pages changed : List (List Step)} {moves : List
               IsMadeFrom.from_place
               (λ j below under.
               stays-apart cs to.start to.at.leads at left j below (subst (λ place. IsUnderNew moves place j below) (sym here) under))
-              (arrivals.carried-left_in_place run true cs to.start to.at.leads at unchanged left ∙ here)
+              (arrivals.carried-left_in_place run cs to.start to.at.leads (directory-moved to.start at) left ∙ here)
           by target (inl taken) leads =
               let j = taken.move in
-              let within = taken.nearest.takes.within in
-              let (new, new_leads, some, fine) = arrivals.new_place run j within in
-              let end_is : end ≡ new ++ taken.below =
-              some_of (sym leads ∙ ap place_of taken.new
-              ∙ arrivals.place-below run (move_at moves j).new new taken.below new_leads) in
-              let (old, old_of, leaves) = leave.each j within in
+              let new = arrivals.taken_place run cs target taken in
+              let end_is : end ≡ new.top ++ taken.below = some_of (sym leads ∙ new.arrives) in
+              let (old, old_of, leaves) = leave.each j new.within in
               IsMadeFrom.from_name j taken.below
-              (record { within = within; top = new; leads = new_leads; down = end_is })
+              (record { within = new.within; top = new.top; leads = new.leads; down = end_is })
               (λ k others under. elim (cases_lt (length others) (length taken.below)) [
                 | inl less ↦
-                    absurd (nearest-new cs target to.start end to.at.leads at taken new new_leads end_is k others under less)
+                    absurd (nearest-new cs target to.start end to.at.leads at taken new.top new.leads end_is k others under less)
                 | inr fine_2 ↦ fine_2
               ])
-              (arrivals.carried-taken run true cs to.start to.at.leads at unchanged target taken old (get_or staging j []) old_of
-              leaves)
+              (arrivals.carried-taken run cs to.start to.at.leads (directory-moved to.start at) target taken old (get_or staging j [])
+              old_of leaves)

@@ -1,13 +1,15 @@
 -- The first of several renames that takes a place along, if one does.
 use Rattle.std.proofs.Common.{All, ◌≡◌, ◌≢◌, ◌⊎◌, ℕ, zero, suc, ◌<◌, ◌+◌, List, [], ◌∷◌, ◌++◌, Some, length, map, take, get_or, inl, inr, refl, sym, ap, ◌∙◌, arith}
-use Rattle.std.proofs.lemmas.List.Elements.{All-cons, All-nil, All-tail}
+use Rattle.std.proofs.lemmas.List.Elements.{All-cons, All-nil}
 use Rattle.relative_path.specs.Steps.{Step, name}
-use Rattle.relative_path.specs.Walk.{IsSame, place_of}
+use Rattle.relative_path.specs.Walk.{place_of}
 use Rattle.relative_path.proofs.ForCallers.{walk-names}
 use Rattle.relative_path_places.specs.PlaceIndex.{IsNoneAt, path_at}
 use Rattle.relmove_trees.specs.FileTrees.{IsUnder}
 use Rattle.relmove_plan.proofs.WholeTreesLemmas.{some_of}
 use Rattle.relmove_trees.proofs.FileTreesLemmas.{place_or, under_or}
+use Rattle.relmove_plan.proofs.SourcesLemmas.{any_or}
+use Rattle.std.proofs.lemmas.List.{get_or_default}
 
 -- of the renames, this one is the first from the place or from above it
 pub record FirstUnder (actions : List (List (List ℕ) × List (List ℕ))) (place : List (List ℕ)) : Type 0 where
@@ -68,24 +70,15 @@ take-append_more {X} (x ∷ xs) ys m =
 pub one_at_or : (paths : List (List Step)) → All (λ cs. (p : List (List ℕ)) × (place_of cs ≡ Some p)) paths
     → (place : List (List ℕ))
     → IsNoneAt paths (map name place) ⊎ ((k : ℕ) × (k < length paths) × (place_of (path_at paths k) ≡ Some place))
-one_at_or [] placed place = inl (λ k within. absurd (let w : k < 0 = within in omega (arith, w)))
-one_at_or (cs ∷ paths) placed place =
-    by (place_or place here.0)
-    (one_at_or paths (All-tail (λ (cs : List Step). (p : List (List ℕ)) × (place_of cs ≡ Some p)) cs paths placed) place)
+one_at_or paths placed place = elim (any_or (λ (cs : List Step). place_of cs ≡ Some place) paths at) [
+  | inl (k, cs, within, is, leads) ↦ inr (k, within, ap place_of (get_or_default paths k [] cs within ∙ is) ∙ leads)
+  | inr none ↦ inl (λ k within same. none k [] within (sym (same.everywhere []) ∙ walk-names [] place))
+]
   where
-    here : (p : List (List ℕ)) × (place_of cs ≡ Some p)
-    here = placed 0 [] (omega arith)
-
-    none_next : place ≢ here.0 → IsNoneAt paths (map name place) → (k : ℕ) → k < length (cs ∷ paths)
-        → ¬ IsSame (map name place) (path_at (cs ∷ paths) k)
-    none_next elsewhere none zero within same =
-        elsewhere (some_of (sym (walk-names [] place) ∙ same.everywhere [] ∙ here.1))
-    none_next elsewhere none (suc k) within same = none k (omega (arith, within)) same
-
-    by : (place ≡ here.0) ⊎ (place ≢ here.0)
-        → IsNoneAt paths (map name place) ⊎ ((k : ℕ) × (k < length paths) × (place_of (path_at paths k) ≡ Some place))
-        → IsNoneAt (cs ∷ paths) (map name place)
-        ⊎ ((k : ℕ) × (k < length (cs ∷ paths)) × (place_of (path_at (cs ∷ paths) k) ≡ Some place))
-    by (inl same) rest = inr (0, omega arith, here.1 ∙ ap Some (sym same))
-    by (inr elsewhere) (inl none) = inl (none_next elsewhere none)
-    by (inr elsewhere) (inr (k, within, leads)) = inr (suc k, omega (arith, within), leads)
+    at : All (λ cs. (place_of cs ≡ Some place) ⊎ (place_of cs ≢ Some place)) paths
+    at k d within =
+        let (p, leads) = placed k d within in
+        elim (place_or place p) [
+          | inl same ↦ inl (leads ∙ ap Some (sym same))
+          | inr differ ↦ inr (λ here. differ (some_of (sym here ∙ leads)))
+        ]

@@ -2,6 +2,7 @@ pub mod RunWords
 pub mod RunsLemmas
 pub mod PlacesLemmas
 pub mod WholeTreesLemmas
+pub mod TakenLemmas
 pub mod LeavingLemmas
 pub mod SourcesLemmas
 pub mod KnownRunsLemmas

@@ -1,14 +1,14 @@
 -- The directories that a run makes come to those that are missing above new paths.
-use Rattle.std.proofs.Common.{All, false, ◌≡◌, ◌≢◌, ◌⊎◌, ℕ, zero, suc, ◌<◌, ◌≤◌, List, [], ◌∷◌, ◌++◌, Contains, Some, length, map, take, drop, get_or, inl, inr, refl, sym, ap, subst, ◌∙◌, append_assoc, append-nil, not, arith}
+use Rattle.std.proofs.Common.{All, false, ◌≡◌, ◌≢◌, ◌⊎◌, ℕ, ◌<◌, ◌≤◌, List, [], ◌∷◌, ◌++◌, Contains, Some, length, map, get_or, inl, inr, refl, sym, ap, subst, ◌∙◌, append_assoc, append-nil, not, arith}
 use Rattle.std.specs.List.{AllZip, join_with_byte, zip}
-use Rattle.std.proofs.Math.Seq.{drop-append_seam}
-use Rattle.std.proofs.lemmas.List.{get_or-map, length-map, map-append, take_at, take-append-drop, take-map, drop-map}
+use Rattle.std.proofs.Math.Seq.{take-append_seam}
+use Rattle.std.proofs.lemmas.List.{get_or-map, length-map, map-append}
 use Rattle.std.proofs.lemmas.List.Elements.{All-tail, All-take}
-use Rattle.std.proofs.lemmas.Slice.Zip.{get_or-zip}
+use Rattle.std.proofs.lemmas.Slice.Zip.{get_or-zip, length-zip, AllZip-long}
 use Rattle.relative_path.specs.Steps.{Step, name, components, slash}
 use Rattle.relative_path.specs.Walk.{place_of}
 use Rattle.relative_path.specs.Normalizing.{IsNormalTextOf}
-use Rattle.relative_path.proofs.ForCallers.{IsSame-place, IsSame-sym, IsSame-trans, components-place, walk-names}
+use Rattle.relative_path.proofs.ForCallers.{IsSame-sym, components-place, walk-names}
 use Rattle.relative_path_moves.specs.Moves.{Move, move_at}
 use Rattle.relative_path_places.specs.PlaceIndex.{IsNoneAt}
 use Rattle.relative_path_moves.specs.TreeMoves.{AtTreePath, IsTakenTo, IsTreePath, TakesAlong}
@@ -16,53 +16,27 @@ use Rattle.relmove_checks.specs.declared.entry.Entry.{Entry}
 use Rattle.relmove_checks.specs.declared.name_rule.NameRule.{NameRule}
 use Rattle.relmove_checks.specs.Moves.{move_of}
 use Rattle.relmove_checks.specs.Trees.{HasAt, is_file}
-use Rattle.relmove_steps.specs.Directories.{AreMade, IsMissingText, IsTextTakenTo, LeavesTo, LeaveToNames, moves_to_names}
+use Rattle.relmove_steps.specs.Directories.{AreMade, IsMissingText, IsTextTakenTo, LeavesTo, LeaveToNames, moves_to_names, IsMissing}
 use Rattle.relmove_trees.specs.FileTrees.{names_of}
 use Rattle.relmove_plan.proofs.RunWords.{carried, IsMadeFor, DirectoriesArrive}
-use Rattle.relmove_steps.specs.Actions.{ActionTexts, staged_names}
+use Rattle.relmove_steps.specs.Actions.{ActionTexts}
 use Rattle.relmove_plan.proofs.CarriedLemmas.{HasNoName, coming, is_reserved_text}
 use Rattle.relmove_plan.proofs.CarriedLemmas as carrying
 use Rattle.relmove_plan.proofs.ArrivalsLemmas as arrivals
 use Rattle.relmove_plan.proofs.ComingLemmas as coming_names
 use Rattle.relmove_plan.proofs.KnownRunsLemmas.{IsKnownRun}
-use Rattle.relmove_plan.proofs.PlacesLemmas.{names_of-normal, spelled-place}
-use Rattle.relmove_plan.proofs.SourcesLemmas.{IsThere-place}
-use Rattle.relmove_plan.proofs.WholeTreesLemmas.{IsSame-one_place, some_of}
+use Rattle.relmove_plan.proofs.PlacesLemmas.{names_of-normal, spelled-place, HasDirectory-names, HasDirectory-place}
+use Rattle.relmove_plan.proofs.SourcesLemmas.{element}
+use Rattle.relmove_plan.proofs.WholeTreesLemmas.{IsSame-one_place, some_of, map_none}
+use Rattle.relmove_checks.proofs.ForCallers.{AllZip-at}
 
 -- a list has one normal text
 IsNormalTextOf-one : (cs : List Step) (one other : List ℕ) → IsNormalTextOf cs one → IsNormalTextOf cs other → one ≡ other
 IsNormalTextOf-one cs one other is is_2 = is_2.only one is.normal_text is.same
 
--- the front of a list of names is a list of names
-pub front-names : (place : List (List ℕ)) (front rest : List Step) → map name place ≡ front ++ rest
-    → front ≡ map name (take (length front) place)
-front-names place front rest split =
-    sym (take_at front rest (length front) refl) ∙ ap (take (length front)) (sym split)
-    ∙ take-map name (length front) place
-
 right-empty : {X : Type 0} (xs ys : List X) → xs ++ ys ≡ [] → ys ≡ []
 right-empty [] ys none = none
 right-empty (x ∷ xs) ys none = absurd (let count = ap length none in omega (arith, count))
-
-pub map-some : (place : List (List ℕ)) → place ≢ [] → map name place ≢ []
-map-some [] some = absurd (some refl)
-map-some (n ∷ place) some = λ none. absurd (let count = ap length none in omega (arith, count))
-
--- ---- two lists, zipped
-
-zip-left : {X Y : Type 0} (xs : List X) (ys : List Y) (j : ℕ) → j < length (zip xs ys) → j < length xs
-zip-left [] ys j l = l
-zip-left (x ∷ xs) [] j l = absurd (let w : j < 0 = l in omega (arith, w))
-zip-left (x ∷ xs) (y ∷ ys) zero l = omega arith
-zip-left (x ∷ xs) (y ∷ ys) (suc j) l =
-    let rest = zip-left xs ys j (omega (arith, l)) in omega (arith, rest)
-
-zip-both : {X Y : Type 0} (xs : List X) (ys : List Y) (j : ℕ) → j < length xs → j < length ys → j < length (zip xs ys)
-zip-both [] ys j l m = l
-zip-both (x ∷ xs) [] j l m = absurd (let w : j < 0 = m in omega (arith, w))
-zip-both (x ∷ xs) (y ∷ ys) zero l m = omega arith
-zip-both (x ∷ xs) (y ∷ ys) (suc j) l m =
-    let rest = zip-both xs ys j (omega (arith, l)) (omega (arith, m)) in omega (arith, rest)
 
 -- what holds of both elements holds of the lists, place by place
 AllZip-with : {X Y : Type 0} (P : X → Type 0) (R Q : X → Y → Type 0) → ((x : X) (y : Y) → P x → R x y → Q x y)
@@ -117,27 +91,16 @@ module _ {entries : List Entry} {pages changed : List (List Step)} {moves : List
     comes-move : (k : ℕ) → k < length moves → (staging : List ℕ) → LeavesTo actions (move_at moves k).old staging
         → ((to : List ℕ) × IsNormalTextOf (move_at moves k).new to × Contains actions.placed (staging, to))
         ⊎ (¬ IsNoneAt changed (move_at moves k).old)
-    comes-move k within staging (old, is, leaves) =
-        let (b, place, leads, at) =
-        IsThere-place entries pages run.whole (move_at moves k).old (run.accepted.apart.come.leave.olds k within).there in
-        elim (coming_names.changed_or run b place at) [
-          | inl none ↦ inl (carries-to (λ c inside same. none c inside (IsSame-trans (IsSame-sym (IsSame-place leads)) same)))
-          | inr (c, inside, leads_2) ↦ inr (λ none. none c inside (IsSame-one_place place leads leads_2))
-        ]
-      where
-        carries-to : IsNoneAt changed (move_at moves k).old
-            → (to : List ℕ) × IsNormalTextOf (move_at moves k).new to × Contains actions.placed (staging, to)
-        carries-to none =
-            let carries = (run.moved k within).carries none in
-            let same : carries.carries.staging ≡ staging =
-            coming_names.left_one run old carries.carries.staging staging
-            (subst (λ from. Contains actions.staged (from, carries.carries.staging))
-            (IsNormalTextOf-one (move_at moves k).old carries.old old carries.old_of is) carries.carries.leaves)
-            leaves in (
-              carries.new,
-              carries.new_of,
-              subst (λ name. Contains actions.placed (name, carries.new)) same carries.carries.comes,
-            )
+    comes-move k within staging (old, is, leaves) = elim (coming_names.move_or run k within) [
+      | inl carries ↦
+          let same : carries.carries.staging ≡ staging =
+          coming_names.left_one run old carries.carries.staging staging
+          (subst (λ from. Contains actions.staged (from, carries.carries.staging))
+          (IsNormalTextOf-one (move_at moves k).old carries.old old carries.old_of is) carries.carries.leaves)
+          leaves in
+          inl (carries.new, carries.new_of, subst (λ name. Contains actions.placed (name, carries.new)) same carries.carries.comes)
+      | inr (c, inside, there) ↦ inr (λ none. none c inside (IsSame-sym there))
+    ]
 
     -- ---- directories above new paths
 
@@ -151,8 +114,8 @@ module _ {entries : List Entry} {pages changed : List (List Step)} {moves : List
           front = map name front;
           rest = map name rest;
           split = components-place normal_is leads ∙ map-append name front rest;
-          some_front = map-some front some;
-          some_rest = map-some rest some_rest;
+          some_front = λ none. some (map_none name front none);
+          some_rest = λ none. some_rest (map_none name rest none);
           there = file;
         })
 
@@ -199,14 +162,9 @@ module _ {entries : List Entry} {pages changed : List (List Step)} {moves : List
     missing-at after text (ds, missing, is) =
         let k = missing.move in
         let (top, new, some_top, fine) = arrivals.new_place run k missing.within in
-        let above = missing.above.above in
-        let normal : components missing.above.normal ≡ map name top = components-place missing.above.normal_of new in
-        let split : map name top ≡ ds ++ above.rest = sym normal ∙ above.split in
-        let place : List (List ℕ) = take (length ds) top in
-        let names_are : ds ≡ map name place = front-names top ds above.rest split in
+        let (place, rest, split, names_are, some, some_rest) =
+        HasDirectory-place (move_at moves k).new ds missing.above.normal top missing.above.normal_of new missing.above.above in
         let leads : place_of ds ≡ Some place = ap place_of names_are ∙ walk-names [] place in
-        let rest_is : above.rest ≡ map name (drop (length ds) top) =
-        sym (drop-append_seam ds above.rest) ∙ ap (drop (length ds)) (sym split) ∙ drop-map name (length ds) top in
         record {
           move = k;
           within = missing.within;
@@ -214,13 +172,48 @@ module _ {entries : List Entry} {pages changed : List (List Step)} {moves : List
           named = names_of-normal ds text place is leads;
           spelled = spelled-place ds text place is leads;
           leads = sym (is.same.everywhere []) ∙ leads;
-          rest = drop (length ds) top;
-          new = new ∙ ap Some (sym (take-append-drop (length ds) top));
-          some = λ none. above.some_front (names_are ∙ ap (map name) none);
-          some_rest = λ none. above.some_rest (rest_is ∙ ap (map name) none);
-          fine = All-take (λ n. is_reserved_text n ≡ false) (length ds) top fine;
+          rest = rest;
+          new = new ∙ ap Some split;
+          some = some;
+          some_rest = some_rest;
+          fine = subst arrivals.NotReserved (take-append_seam place rest)
+              (All-take (λ n. is_reserved_text n ≡ false) (length place) (place ++ rest) (subst arrivals.NotReserved split fine));
           none = subst (IsNoneAt after) names_are missing.none;
         }
+
+    -- a directory above a new path is missing, if no entry is there after the moves
+    pub IsMissing-above : (after : List (List Step)) (k : ℕ) → k < length moves → (front rest : List (List ℕ))
+        → place_of (move_at moves k).new ≡ Some (front ++ rest) → front ≢ [] → rest ≢ [] → IsNoneAt after (map name front)
+        → IsMissing moves after (map name front)
+    IsMissing-above after k within front rest leads some some_rest none =
+        let (normal, normal_of, clear) = run.accepted.below_no_file k within in
+        record {
+          move = k;
+          within = within;
+          above = record {
+            normal = normal;
+            normal_of = normal_of;
+            above = HasDirectory-names (move_at moves k).new normal front rest normal_of leads some some_rest;
+          };
+          none = none;
+        }
+
+    -- what is made comes to a missing directory
+    pub missing-made : (after : List (List Step)) (made : List (List ℕ)) (arrive : DirectoriesArrive moves after actions made) (i : ℕ)
+        (text : List ℕ) → i < length made → get_or made i text ≡ text
+        → (directory : List ℕ) × (at : IsMissingAt moves after directory) × (carried (coming actions) (names_of text) ≡ at.place)
+    missing-made after made arrive i text within is =
+        let long = AllZip-long (IsMadeFor actions) arrive.missing made arrive.arrive in
+        let inside : i < length arrive.missing = omega (arith, within, long) in
+        let (directory, directory_is) = element arrive.missing i inside in
+        let at = missing-at after directory
+        (subst (IsMissingText moves after) directory_is (arrive.are_missing.sound i directory inside)) in (
+          directory,
+          at,
+          ap (λ text. carried (coming actions) (names_of text)) (sym is)
+              ∙ AllZip-at (IsMadeFor actions) arrive.missing made i directory text arrive.arrive inside ∙ ap names_of directory_is
+              ∙ at.named,
+        )
 
     -- no staging name is at a missing directory or above it
     pub HasNoName-missing : (after : List (List Step)) (text : List ℕ) (missing : IsMissingAt moves after text)
@@ -235,20 +228,14 @@ module _ {entries : List Entry} {pages changed : List (List Step)} {moves : List
           → components (get_or staging j []) ≡ name (get_or staging j []) ∷ []
       single_name j within =
           let (old, is, leaves) = leave.each j within in
-          let here : get_or (staged_names actions) leaves.0 [] ≡ get_or staging j [] =
-          get_or-map (λ (step : List ℕ × List ℕ). step.1) actions.staged leaves.0 (old, get_or staging j []) [] leaves.1
-          ∙ ap (λ (step : List ℕ × List ℕ). step.1) leaves.2 in
-          subst (λ staging. components staging ≡ name staging ∷ []) here
-          (run.single leaves.0 [] (rw length-map leaves.1))
+          carrying.staging_single run (get_or staging j [])
+          (carrying.has_name run leaves.0 (old, get_or staging j []) leaves.1 leaves.2)
 
       abbrev news : List Move
       news = moves_to_names moves staging
 
-      length-news : (j : ℕ) → j < length news → j < length moves
-      length-news j within = let w : j < length (zip moves staging) = rw length-map at within in zip-left moves staging j w
-
-      length-news_all : (j : ℕ) → j < length moves → j < length news
-      length-news_all j within = rw length-map (zip-both moves staging j within (rw leave.count within))
+      long-zip : length (zip moves staging) ≡ length moves
+      long-zip = let long = length-zip moves staging in let count = leave.count in omega (arith, long, count)
 
       -- a move from a new path to a name
       new_at : (j : ℕ) → j < length moves
@@ -259,14 +246,14 @@ module _ {entries : List Entry} {pages changed : List (List Step)} {moves : List
           let pairs : get_or (zip moves staging) j (none, []) ≡ (get_or moves j none, get_or staging j []) =
           get_or-zip moves staging j (none, []) within within_2 in
           get_or-map (λ (pair : Move × List ℕ). move_of pair.0.new (components pair.1)) (zip moves staging) j (none, []) none
-          (zip-both moves staging j within within_2)
+          (rw long-zip within)
           ∙ ap (λ (pair : Move × List ℕ). move_of pair.0.new (components pair.1)) pairs
 
       -- the moves from the new paths to the names take along what is at the new paths and below them
       takes-new : (place : List (List ℕ)) (j : ℕ) (below : List (List ℕ)) → IsUnderNew moves place j below
           → TakesAlong news place j below
       takes-new place j below under = record {
-        within = length-news_all j under.within;
+        within = rw (length-map, long-zip) under.within;
         top = under.top;
         old = ap (λ (move : Move). place_of move.old) (new_at j under.within) ∙ under.leads;
         down = under.down;
@@ -275,7 +262,7 @@ module _ {entries : List Entry} {pages changed : List (List Step)} {moves : List
       new-takes : (place : List (List ℕ)) (j : ℕ) (below : List (List ℕ)) → TakesAlong news place j below
           → IsUnderNew moves place j below
       new-takes place j below takes =
-          let within : j < length moves = length-news j takes.within in
+          let within : j < length moves = rw (length-map, long-zip) at takes.within in
           record {
             within = within;
             top = takes.top;
@@ -288,7 +275,7 @@ module _ {entries : List Entry} {pages changed : List (List Step)} {moves : List
           → place_of target ≡ Some (get_or staging taken.move [] ∷ taken.below)
       taken_to cs target taken =
           let j = taken.move in
-          let within : j < length moves = length-news j taken.nearest.takes.within in
+          let within : j < length moves = rw (length-map, long-zip) at taken.nearest.takes.within in
           let target_is : target ≡ map name (get_or staging j [] ∷ taken.below) =
           taken.new ∙ ap (λ (move : Move). move.new ++ map name taken.below) (new_at j within)
           ∙ ap (λ cs. cs ++ map name taken.below) (single_name j within) in

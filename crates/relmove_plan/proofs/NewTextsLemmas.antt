@@ -1,27 +1,27 @@
 -- New texts can be written to a tree of the entries; then it has the entries and the new files.
-use Rattle.std.proofs.Common.{All, Bool, true, false, ◌≡◌, ◌≢◌, ◌⊎◌, ℕ, suc, ◌<◌, List, [], ◌∷◌, ◌++◌, Contains, Option, Some, None, IsSome, length, map, get_or, inl, inr, refl, sym, ap, subst, ◌∙◌, arith}
-use Rattle.std.proofs.lemmas.List.Elements.{All-cons, All-nil}
-use Rattle.std.proofs.lemmas.List.{get_or-map, get_or_default, length-map}
+use Rattle.std.proofs.Common.{Bool, true, false, ◌≡◌, ◌≢◌, ◌⊎◌, ℕ, ◌<◌, List, [], ◌∷◌, ◌++◌, Contains, Option, Some, None, IsSome, length, map, get_or, inl, inr, refl, sym, ap, subst, ◌∙◌, arith}
+use Rattle.std.proofs.lemmas.List.{get_or_default, length-map}
 use Rattle.std.specs.List.{Any, join_with_byte}
 use Rattle.relative_path.proofs.ForCallers.{walk-names}
 use Rattle.relative_path.specs.Steps.{Step, components, name, slash}
 use Rattle.relative_path.specs.Walk.{place_of}
-use Rattle.relative_path_moves.specs.Moves.{Move, move_at}
+use Rattle.relative_path_moves.specs.Moves.{Move}
 use Rattle.relative_path_places.specs.PlaceIndex.{IsNoneAt, path_at}
 use Rattle.relmove_checks.specs.Trees.{entry_paths}
 use Rattle.relmove_checks.specs.declared.entry.Entry.{Entry}
 use Rattle.relmove_checks.specs.declared.name_rule.NameRule.{NameRule}
+use Rattle.relmove_plan.proofs.CarriedLemmas as carrying
 use Rattle.relmove_plan.proofs.KnownRunsLemmas.{IsKnownRun}
-use Rattle.relmove_plan.proofs.SourcesLemmas.{IsFrom, IsSource, IsSource-leaves, IsThere-place, element}
-use Rattle.relmove_plan.proofs.TreeAddsLemmas.{AreAddReady, CanAddAll, CanAddAll-ready, IsAddReady, adds-only, adds-stays, adds-there, after_adds, after_adds-whole}
+use Rattle.relmove_plan.proofs.SourcesLemmas.{IsFrom, IsSource, IsSource-leaves, element, get_or-map_element, each-map}
+use Rattle.relmove_plan.proofs.TreeAddsLemmas.{AreAddReady, CanAddAll, CanAddAll-ready, IsAddReady, added_or, adds-only, adds-stays, adds-there, after_adds, after_adds-whole}
 use Rattle.relmove_plan.proofs.TreeStagesLemmas.{HasThings, StaysAside}
-use Rattle.relmove_plan.proofs.WholeTreesLemmas.{HasDirectoryAt-above, IsNoneAt-entry, not_empty, some_of}
+use Rattle.relmove_plan.proofs.WholeTreesLemmas.{HasDirectoryAt-above, IsNoneAt-entry, not_empty}
 use Rattle.relmove_trees.specs.FileTrees.{Directory, File, IsWholeTree, Node, Place, Tree, names_of}
 use Rattle.relmove_plan.specs.MovedTrees.{AreTakenTo}
 use Rattle.relmove_plan.proofs.RunWords.{carried, renames_of}
 use Rattle.relmove_plan.specs.WholeTrees.{HasDirectoryAt, IsAt}
 use Rattle.relmove_steps.specs.Actions.{ActionTexts, staged_names, of_text}
-use Rattle.relmove_trees.proofs.FileTreesLemmas.{place_or, some_is}
+use Rattle.relmove_trees.proofs.FileTreesLemmas.{some_is}
 
 -- a new text as a node
 abbrev pub text_at : List ℕ × List ℕ × List ℕ → Place × Node
@@ -57,20 +57,6 @@ pub record IsFileAt (entries : List Entry) (new : List ℕ × List ℕ × List �
   pub unused : (b : Bool) → ¬ Any (IsAt b (names_of new.1)) entries
   pub spelled : new.1 ≡ join_with_byte slash (names_of new.1)
 
--- a new text is written at the place, or none is
-pub text_or : (texts : List (List ℕ × List ℕ × List ℕ)) (place : Place)
-    → Any (λ new. names_of new.1 ≡ place) texts ⊎ All (λ new. place ≢ new.0) (map text_at texts)
-text_or [] place = inr (All-nil (λ (new : Place × Node). place ≢ new.0))
-text_or (text ∷ texts) place = by (place_or (names_of text.1) place) (text_or texts place)
-  where
-    by : (names_of text.1 ≡ place) ⊎ (names_of text.1 ≢ place)
-        → Any (λ new. names_of new.1 ≡ place) texts ⊎ All (λ new. place ≢ new.0) (map text_at texts)
-        → Any (λ new. names_of new.1 ≡ place) (text ∷ texts) ⊎ All (λ new. place ≢ new.0) (map text_at (text ∷ texts))
-    by (inl same) rest = inl (0, text, omega arith, refl, same)
-    by (inr differ) (inl (k, other, within, is, same)) = inl (suc k, other, omega (arith, within), is, same)
-    by (inr differ) (inr none) =
-        inr (All-cons (λ (new : Place × Node). place ≢ new.0) (text_at text) (map text_at texts) (λ same. differ (sym same)) none)
-
 module _ {entries : List Entry} {pages changed : List (List Step)} {moves : List Move} {rule : NameRule} {actions : ActionTexts}
     (run : IsKnownRun entries pages changed moves rule actions)
   where
@@ -103,9 +89,7 @@ module _ {entries : List Entry} {pages changed : List (List Step)} {moves : List
 
         by : IsFrom entries moves changed (staged_names actions) src.place → IsFileAt entries new
         by (IsFrom.from_move k within leads) =
-            let (b, place, leads_2, at) =
-            IsThere-place entries pages run.whole (move_at moves k).old (run.accepted.apart.come.leave.olds k within).there in
-            absurd (no_entry b (subst (λ place. Any (IsAt b place) entries) (some_of (sym leads_2 ∙ leads)) at))
+            let (b, at) = carrying.old_entry run k within src.place leads in absurd (no_entry b at)
         by (IsFrom.from_page k within file same) =
             absurd (no_entry false (subst (λ place. Any (IsAt false place) entries) (sym same) file.file))
         by (IsFrom.from_file k within top front n last split same none no_name) = record {
@@ -156,19 +140,14 @@ module _ {entries : List Entry} {pages changed : List (List Step)} {moves : List
               let within_2 : j < length actions.texts = omega (arith, less, within) in
               let (other, other_is) = element actions.texts j within_2 in
               let here : names_of new.1 ≡ names_of other.1 =
-              same ∙ ap (λ (new : Place × Node). new.0) (get_or-map text_at actions.texts j other d within_2)
-              ∙ ap (λ (new : List ℕ × List ℕ × List ℕ). names_of new.1) other_is in
+              same ∙ ap (λ (new : Place × Node). new.0) (get_or-map_element text_at actions.texts j other d within_2 other_is) in
               run.own.different j k new less within
               (ap (λ (new : List ℕ × List ℕ × List ℕ). new.1) (get_or_default actions.texts j new other within_2 ∙ other_is)
               ∙ (file_at other (j, within_2, other_is)).spelled ∙ ap (join_with_byte slash) (sym here)
               ∙ sym (file_at new (k, within, is)).spelled ∙ ap (λ (new : List ℕ × List ℕ × List ℕ). new.1) (sym is))
 
       write_ready : AreAddReady start files
-      write_ready k new within is =
-          let within_2 : k < length actions.texts = rw length-map at within in
-          let (one, one_is) = element actions.texts k within_2 in
-          let here : text_at one ≡ new = sym (get_or-map text_at actions.texts k one new within_2 ∙ ap text_at one_is) ∙ is in
-          subst (λ (new : Place × Node). IsAddReady start files k new.0) here (write_ready-at k one within_2 one_is)
+      write_ready = each-map text_at actions.texts (λ k new. IsAddReady start files k new.0) write_ready-at
 
       pub can_write-all : CanAddAll files start
       can_write-all = CanAddAll-ready files start of.whole_tree write_ready
@@ -183,7 +162,7 @@ module _ {entries : List Entry} {pages changed : List (List Step)} {moves : List
           → written (names_of new.1) ≡ Some (File new.2)
       written-there new (k, within, is) =
           adds-there files start can_write-all k (text_at new) (rw length-map within)
-          (get_or-map text_at actions.texts k new (text_at new) within ∙ ap text_at is)
+          (get_or-map_element text_at actions.texts k new (text_at new) within is)
 
       entry_there : (b : Bool) (place : Place) → Any (IsAt b place) entries → IsSome (start place)
       entry_there true place at = some_is _ _ (sym (of.directories place at)) refl
@@ -198,7 +177,7 @@ module _ {entries : List Entry} {pages changed : List (List Step)} {moves : List
               subst (λ place. IsSome (written place)) same (some_is _ _ (sym (written-there new (k, within, is))) refl)
         ];
         directories = λ place at. written-stays place (entry_there true place at) ∙ of.directories place at;
-        only = λ place some. elim (text_or actions.texts place) [
+        only = λ place some. elim (added_or text_at actions.texts place) [
           | inl file ↦ inr (inl (inr file))
           | inr none ↦ elim (of.only place (some_is _ _ (adds-only files start place none) some)) [
             | inl root ↦ inl root

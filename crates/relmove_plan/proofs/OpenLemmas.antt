@@ -1,15 +1,14 @@
 -- A directory can be made where a run makes it, and each rename of `placed` leads to where something can come.
-use Rattle.std.proofs.Common.{All, false, ◌≡◌, ◌≢◌, ◌⊎◌, ℕ, zero, suc, ◌<◌, ◌≤◌, ◌+◌, List, [], ◌∷◌, ◌++◌, Contains, Some, length, map, drop, take, get_or, inl, inr, refl, sym, ap, subst, ◌∙◌, append_assoc, append-nil, arith}
+use Rattle.std.proofs.Common.{All, false, ◌≡◌, ◌≢◌, ◌⊎◌, ℕ, zero, suc, ◌<◌, ◌≤◌, ◌+◌, List, [], ◌∷◌, ◌++◌, Some, length, map, drop, take, get_or, inl, inr, refl, sym, ap, subst, ◌∙◌, append_assoc, append-nil, arith}
 use Rattle.std.specs.List.{Any, join_with_byte}
 use Rattle.std.proofs.Math.Seq.{drop-append_seam, take-append_seam}
 use Rattle.std.proofs.lemmas.Bool.{cases_order}
-use Rattle.std.proofs.lemmas.List.{get_or-drop, get_or-map, get_or-take, get_or_default, length-append, length-drop, length-map, length-take-le, map-append, take-append-drop}
-use Rattle.std.proofs.lemmas.List.Elements.{All-drop}
+use Rattle.std.proofs.lemmas.List.{get_or-drop, get_or-map, get_or-take, get_or_default, length-append, length-drop, length-map, length-take-le, same_from_push}
 use Rattle.std.proofs.lemmas.Slice.Zip.{AllZip-long}
 use Rattle.relative_path.specs.Steps.{Step, name, components, slash}
 use Rattle.relative_path.specs.Walk.{place_of}
 use Rattle.relative_path.specs.Normalizing.{IsNormalTextOf}
-use Rattle.relative_path.proofs.ForCallers.{components-place, walk-names}
+use Rattle.relative_path.proofs.ForCallers.{walk-names}
 use Rattle.relative_path_moves.specs.Moves.{Move, move_at, turned}
 use Rattle.relative_path_places.specs.PlaceIndex.{IsNoneAt, path_at}
 use Rattle.relative_path_moves.specs.TreeMoves.{IsLeftInPlace, IsTreePath}
@@ -17,7 +16,7 @@ use Rattle.relmove_checks.specs.declared.entry.Entry.{Entry}
 use Rattle.relmove_checks.specs.declared.name_rule.NameRule.{NameRule}
 use Rattle.relmove_checks.specs.Moves.{move_of}
 use Rattle.relmove_checks.proofs.ForCallers.{AllZip-at}
-use Rattle.relmove_steps.specs.Directories.{IsMissing, IsMissingText, MakesMissing, moves_to_names}
+use Rattle.relmove_steps.specs.Directories.{IsMissingText, MakesMissing, moves_to_names}
 use Rattle.relmove_steps.specs.Directories as specs
 use Rattle.relmove_trees.specs.FileTrees.{IsUnder, names_of}
 use Rattle.relmove_plan.proofs.RunWords.{rename_places, carried, renames_of, CanBeMade, CanCome, HasMadeDirectory, HasOldDirectory, IsOpen, IsThereAfter}
@@ -27,24 +26,19 @@ use Rattle.relmove_plan.proofs.KnownRunsLemmas.{IsKnownRun}
 use Rattle.relmove_plan.proofs.CarriedLemmas.{coming, leaving}
 use Rattle.relmove_plan.proofs.CarriedLemmas as carrying
 use Rattle.relmove_plan.proofs.ArrivalsLemmas as arrivals
-use Rattle.relmove_plan.proofs.WaysLemmas.{renames-coming}
-use Rattle.relmove_plan.proofs.WaysLemmas as leaves
+use Rattle.relmove_plan.proofs.WaysLemmas.{carried-coming}
 use Rattle.relmove_plan.proofs.ComingLemmas.{IsDestination}
-use Rattle.relmove_plan.proofs.ComingLemmas as destinations
 use Rattle.relmove_plan.proofs.FreeWaysLemmas as ways
 use Rattle.relmove_plan.proofs.MadeLemmas.{IsMadeFrom, IsMissingAt, IsUnderNew}
 use Rattle.relmove_plan.proofs.MadeLemmas as directories
-use Rattle.relmove_plan.proofs.EndsLemmas.{IsDirectoryTo, takes-more}
+use Rattle.relmove_plan.proofs.EndsLemmas.{IsDirectoryTo}
 use Rattle.relmove_plan.proofs.EndsLemmas as ends
-use Rattle.relmove_plan.proofs.PlacesLemmas.{IsBelow-joined, names_of-normal}
-use Rattle.relmove_plan.proofs.RunsLemmas.{carried-append, carried-elsewhere, carried-still}
-use Rattle.relmove_plan.proofs.SourcesLemmas.{IsThere-place, element, first_of}
-use Rattle.relmove_plan.proofs.WholeTreesLemmas.{HasDirectoryAt-above, IsAt-some, IsSame-one_place, not_empty, push_last, some_append, some_of}
-use Rattle.relmove_trees.proofs.FileTreesLemmas.{last_view, push_front}
-
-pub take-none : {X : Type 0} (xs : List X) → take 0 xs ≡ []
-take-none [] = refl
-take-none (x ∷ xs) = refl
+use Rattle.relmove_plan.proofs.PlacesLemmas.{IsBelow-spelled, names_of-normal}
+use Rattle.relmove_plan.proofs.RunsLemmas.{carried-still, carried-take}
+use Rattle.relmove_plan.proofs.SourcesLemmas.{element, first_of, get_or-map_element}
+use Rattle.relmove_plan.proofs.WholeTreesLemmas.{HasDirectoryAt-above, IsAt-some, IsSame-one_place, not_empty, some_append, some_of, one_number}
+use Rattle.relmove_trees.proofs.FileTreesLemmas.{last_view}
+use Rattle.relmove_plan.proofs.TakenLemmas.{IsLeftInPlace-above, IsTakenTo-above}
 
 -- two fronts of a place before as many names are one front
 one_front : (place one other below rest : List (List ℕ)) → place ≡ one ++ below → place ≡ other ++ rest
@@ -69,15 +63,15 @@ below-last moves place front q j below under split some = by (last_view below)
         → (first : List (List ℕ)) × (below ≡ first ++ q ∷ []) × IsUnderNew moves front j first
     by (inl none) = absurd (some none)
     by (inr (first, last, is)) =
-        let same : (under.top ++ first) ++ last ∷ [] ≡ front ++ q ∷ [] =
-        append_assoc under.top first (last ∷ []) ∙ ap (λ below. under.top ++ below) (sym is) ∙ sym under.down ∙ split in (
+        let (front_is, last_is) = same_from_push (under.top ++ first) front last q
+        (append_assoc under.top first (last ∷ []) ∙ ap (λ below. under.top ++ below) (sym is) ∙ sym under.down ∙ split) in (
           first,
-          is ∙ ap (λ last. first ++ last ∷ []) (push_last (under.top ++ first) front last q same),
+          is ∙ ap (λ last. first ++ last ∷ []) last_is,
           record {
             within = under.within;
             top = under.top;
             leads = under.leads;
-            down = sym (push_front (under.top ++ first) front last q same);
+            down = sym front_is;
           },
         )
 
@@ -115,13 +109,15 @@ module _ {entries : List Entry} {pages changed : List (List Step)} {moves : List
 
     -- ---- what is made
 
+    long_made : length made ≡ length missing
+    long_made =
+        AllZip-long (specs.IsTextTakenTo (moves_to_names moves staging)) missing made makes.are_made.taken.taken
+
     made-at : (i : ℕ) (text : List ℕ) → i < length made → get_or made i text ≡ text
         → IsMadeAt moves after staging missing i text
     made-at i text within is =
         let taken = makes.are_made.taken in
-        let long : length made ≡ length missing =
-        AllZip-long (specs.IsTextTakenTo (moves_to_names moves staging)) missing made taken.taken in
-        let inside : i < length missing = omega (arith, within, long) in
+        let inside : i < length missing = omega (arith, within, long_made) in
         let (directory, is_2) = element missing i inside in
         let at = directories.missing-at run after directory
         (subst (IsMissingText moves after) is_2 (taken.are_missing.sound i directory inside)) in
@@ -151,7 +147,7 @@ module _ {entries : List Entry} {pages changed : List (List Step)} {moves : List
     none-comes : (directory : List ℕ) (at : IsMissingAt moves after directory) (g : ℕ) → g < length entries
         → place_of (components (get_or run.accepted.apart.after g [])) ≢ Some at.place
     none-comes directory at g inside arrives =
-        let long = ends.long run in
+        let long = ways.long run in
         let within : g < length run.accepted.apart.after = omega (arith, inside, long) in
         at.none g (rw length-map within)
         (IsSame-one_place at.place (walk-names [] at.place)
@@ -160,32 +156,27 @@ module _ {entries : List Entry} {pages changed : List (List Step)} {moves : List
     -- so no new path is at a missing directory
     not_new : (directory : List ℕ) (at : IsMissingAt moves after directory) (j : ℕ) → ¬ IsUnderNew moves at.place j []
     not_new directory at j under =
-        let (g, inside, place, leads, old, arrives) = ends.moved-entry run j under.within under.top under.leads in
+        let (g, inside, arrives) = ends.moved-entry run j under.within under.top under.leads in
         none-comes directory at g inside (arrives ∙ ap Some (sym (under.down ∙ append-nil under.top)))
 
     -- two moves with one new path are one move
     one_new : (j k : ℕ) (top : List (List ℕ)) → j < length moves → k < length moves → place_of (move_at moves j).new ≡ Some top
         → place_of (move_at moves k).new ≡ Some top → j ≡ k
-    one_new j k top within within_2 leads leads_2 = elim (cases_order j k) [
-      | inl same ↦ same
-      | inr (inl less) ↦ absurd (twice j k less within within_2 leads leads_2)
-      | inr (inr more) ↦ absurd (twice k j more within_2 within leads_2 leads)
-    ]
+    one_new j k top within within_2 leads leads_2 =
+        one_number (λ j. (j < length moves) × (place_of (move_at moves j).new ≡ Some top))
+        (λ j k less (inside, one) (inside_2, other).
+        run.accepted.apart.come.apart j k (record {
+          before = less;
+          within = rw length-map inside_2;
+          same = IsSame-one_place top (ap (λ (move : Move). place_of move.old) (turned_at j inside) ∙ one)
+              (ap (λ (move : Move). place_of move.old) (turned_at k inside_2) ∙ other);
+        }))
+        j k (within, leads) (within_2, leads_2)
       where
         turned_at : (j : ℕ) → j < length moves → move_at (turned moves) j ≡ move_of (move_at moves j).new (move_at moves j).old
         turned_at j within =
             let none : Move = record { old = []; new = [] } in
             get_or-map (λ (move : Move). move_of move.new move.old) moves j none none within
-
-        twice : (j k : ℕ) → j < k → j < length moves → k < length moves → place_of (move_at moves j).new ≡ Some top
-            → place_of (move_at moves k).new ≡ Some top → ⊥
-        twice j k less within within_2 leads leads_2 =
-            run.accepted.apart.come.apart j k (record {
-              before = less;
-              within = rw length-map within_2;
-              same = IsSame-one_place top (ap (λ (move : Move). place_of move.old) (turned_at j within) ∙ leads)
-                  (ap (λ (move : Move). place_of move.old) (turned_at k within_2) ∙ leads_2);
-            })
 
     -- ---- where directories are before the renames of `placed`
 
@@ -236,14 +227,6 @@ module _ {entries : List Entry} {pages changed : List (List Step)} {moves : List
         empty [] none = refl
         empty (n ∷ below) none = absurd (omega (arith, none))
 
-    -- before the renames of `placed` a thing is where it left to
-    carried-zero : (start : List (List ℕ))
-        → carried (take (length actions.staged + 0) (renames_of actions)) start ≡ carried (leaving actions) start
-    carried-zero start =
-        ap (λ renames. carried renames start) (renames-coming actions 0)
-        ∙ carried-append (leaving actions) (take 0 (coming actions)) start
-        ∙ ap (λ renames. carried renames (carried (leaving actions) start)) (take-none (coming actions))
-
     -- ---- directories above new paths
 
     made-front : (i : ℕ) (text directory : List ℕ) (it : IsMadeAt moves after staging missing i text)
@@ -259,28 +242,10 @@ module _ {entries : List Entry} {pages changed : List (List Step)} {moves : List
         → (i : ℕ) × (text : List ℕ) × (i < length made) × (get_or made i text ≡ text)
         × (it : IsMadeAt moves after staging missing i text) × (it.at.place ≡ front)
     made-above k within front rest new some some_rest none =
-        let (normal, normal_is, above) = run.accepted.below_no_file k within in
-        let is_missing : IsMissing moves after (map name front) =
-        record {
-          move = k;
-          within = within;
-          above = record {
-            normal = normal;
-            normal_of = normal_is;
-            above = record {
-              rest = map name rest;
-              split = components-place normal_is new ∙ map-append name front rest;
-              some_front = directories.map-some front some;
-              some_rest = directories.map-some rest some_rest;
-            };
-          };
-          none = none;
-        } in
-        let taken = makes.are_made.taken in
-        let (directory, (i, inside, is), directory_is) = taken.are_missing.complete (map name front) is_missing in
-        let long : length made ≡ length missing =
-        AllZip-long (specs.IsTextTakenTo (moves_to_names moves staging)) missing made taken.taken in
-        let within_2 : i < length made = omega (arith, inside, long) in
+        let (directory, (i, inside, is), directory_is) =
+        makes.are_made.taken.are_missing.complete (map name front)
+        (directories.IsMissing-above run after k within front rest new some some_rest none) in
+        let within_2 : i < length made = omega (arith, inside, long_made) in
         let (text, text_is) = element made i within_2 in
         let it = made-at i text within_2 text_is in
         (i, text, within_2, text_is, it, made-front i text directory it is front directory_is)
@@ -299,14 +264,10 @@ module _ {entries : List Entry} {pages changed : List (List Step)} {moves : List
           absurd (omega (arith, long, count))
       | inr (inl less) ↦ less
       | inr (inr more) ↦
-          let (rest, is_below) = IsBelow-joined above.at.place q [] above.at.some in
-          absurd (makes.are_made.taken.are_missing.order i j more above.inside (
-            rest,
-            get_or_default missing i [] it.directory it.inside ∙ it.is ∙ it.at.spelled ∙ ap (join_with_byte slash) split
-                ∙ is_below
-                ∙ ap (λ top. top ++ slash ∷ rest)
-                (sym (get_or_default missing j [] above.directory above.inside ∙ above.is ∙ above.at.spelled)),
-          ))
+          absurd (makes.are_made.taken.are_missing.order i j more above.inside
+          (IsBelow-spelled (get_or missing j []) (get_or missing i []) above.at.place q [] above.at.some
+          (get_or_default missing j [] above.directory above.inside ∙ above.is ∙ above.at.spelled)
+          (get_or_default missing i [] it.directory it.inside ∙ it.is ∙ it.at.spelled ∙ ap (join_with_byte slash) split)))
     ]
 
     -- the directory in which another is made is there
@@ -327,7 +288,7 @@ module _ {entries : List Entry} {pages changed : List (List Step)} {moves : List
           carried (leaving actions) to.start,
           front-made it.directory it.at front q split (names_of text) (carried (leaving actions) to.start) it.from
               (ends.from-directory run staging makes.leave front to),
-          inl (to.start, (to.number, to.entry, to.within, to.is, to.at), carried-zero to.start),
+          inl (to.start, (to.number, to.entry, to.within, to.is, to.at), carried-coming actions 0 to.start),
         )
         by (inl none) =
             let (j, other, within_2, is, above, place_is) =
@@ -342,7 +303,7 @@ module _ {entries : List Entry} {pages changed : List (List Step)} {moves : List
                 other,
                 omega (arith, less, long),
                 get_or-take i made j other less ∙ is,
-                ap (λ renames. carried renames (names_of other)) (take-none (coming actions)),
+                refl,
               ),
             )
 
@@ -350,7 +311,7 @@ module _ {entries : List Entry} {pages changed : List (List Step)} {moves : List
     free-made : (i : ℕ) (text : List ℕ) (it : IsMadeAt moves after staging missing i text)
         → ¬ IsThereAfter entries actions (length actions.staged + 0) (names_of text)
     free-made i text it there =
-        let here : carried (leaving actions) there.start ≡ names_of text = sym (carried-zero there.start) ∙ there.now in
+        let here : carried (leaving actions) there.start ≡ names_of text = sym (carried-coming actions 0 there.start) ∙ there.now in
         let comes : carried (renames_of actions) there.start ≡ it.at.place =
         carrying.carried-in_turn run there.start ∙ ap (carried (coming actions)) here ∙ carried-missing i text it in
         let of = ways.belongs run there.start it.at.place there.thing comes
@@ -364,10 +325,8 @@ module _ {entries : List Entry} {pages changed : List (List Step)} {moves : List
         let long : length (take i made) ≡ i = length-take-le i made (omega (arith, within)) in
         let less : j < i = omega (arith, inside, long) in
         let above = made-at j other (omega (arith, less, within)) (sym (get_or-take i made j other less) ∙ is) in
-        let names_are : names_of other ≡ names_of text =
-        sym (ap (λ renames. carried renames (names_of other)) (take-none (coming actions))) ∙ same in
         let place_is : above.at.place ≡ it.at.place =
-        sym (carried-missing j other above) ∙ ap (carried (coming actions)) names_are ∙ carried-missing i text it in
+        sym (carried-missing j other above) ∙ ap (carried (coming actions)) same ∙ carried-missing i text it in
         makes.are_made.taken.are_missing.different j i [] less it.inside
         (get_or_default missing j [] above.directory above.inside ∙ above.is ∙ above.at.spelled
         ∙ ap (join_with_byte slash) place_is
@@ -409,36 +368,13 @@ module _ {entries : List Entry} {pages changed : List (List Step)} {moves : List
 
     module _ (m : ℕ) (step : List ℕ × List ℕ) (within : m < length actions.placed) (is : get_or actions.placed m step ≡ step)
       where
-        before : (l : ℕ) × (other : List ℕ × List ℕ) × (l < length actions.staged) × (get_or actions.staged l other ≡ other)
-            × (other.1 ≡ step.0)
-        before = leaves.left_before run m step within is
-
-        leaves-to : Contains actions.staged (before.1.0, step.0)
-        leaves-to =
-            let (l, other, within_2, is_2, same) = before in
-            (l, within_2, subst (λ b. get_or actions.staged l (other.0, b) ≡ (other.0, b)) same is_2)
-
         to : IsDestination entries moves changed step.1
-        to =
-            destinations.destination run before.1.0 step.0 step.1 (leaves.leaves run before.0 before.1 before.2 before.3) leaves-to
-            (m, within, is)
+        to = ways.destination run m step within is
 
         -- an entry comes to there
         comes-entry : (g : ℕ) × (g < length entries) × (place_of (components (get_or run.accepted.apart.after g [])) ≡ Some to.place)
         comes-entry =
-            let arrives : carried (renames_of actions) (names_of before.1.0) ≡ to.place =
-            carrying.carried-from run before.1.0 step.1 to.place
-            (record { staging = step.0; leaves = leaves-to; comes = (m, within, is) }) to.named to.ends in
-            let of = ways.belongs run (names_of before.1.0) to.place (leaves.IsThing-leaves run before.0 before.1 before.2 before.3)
-            arrives to.ends in
-            (of.number, of.within, of.arrives)
-
-        split-renames : take (length actions.staged + m) (renames_of actions) ++ drop m (coming actions) ≡ renames_of actions
-        split-renames =
-            ap (λ first. first ++ drop m (coming actions)) (renames-coming actions m)
-            ∙ append_assoc (leaving actions) (take m (coming actions)) (drop m (coming actions))
-            ∙ ap (λ rest. leaving actions ++ rest) (take-append-drop m (coming actions))
-            ∙ sym (map-append rename_places actions.staged actions.placed)
+            let of = ways.comes_belongs run m step within is in (of.number, of.within, of.arrives ∙ ap Some to.named)
 
         module _ (front : List (List ℕ)) (q : List ℕ) (split : to.place ≡ front ++ q ∷ []) where
           -- no later rename leads to the directory above, or to above it
@@ -458,8 +394,7 @@ module _ {entries : List Entry} {pages changed : List (List Step)} {moves : List
               here : (other : List ℕ × List ℕ) → get_or actions.placed (m + j) other ≡ other
                   → get_or (drop m (coming actions)) j d ≡ rename_places other
               here other is_2 =
-                  get_or-drop m (coming actions) j d ∙ get_or-map rename_places actions.placed (m + j) other d within_2
-                  ∙ ap rename_places is_2
+                  get_or-drop m (coming actions) j d ∙ get_or-map_element rename_places actions.placed (m + j) other d within_2 is_2
 
               by : (k : ℕ) → (other : List ℕ × List ℕ) × (get_or actions.placed (m + j) other ≡ other) → k ≡ j → ⊥
               by zero (other, is_2) same =
@@ -477,11 +412,7 @@ module _ {entries : List Entry} {pages changed : List (List Step)} {moves : List
                 where
                   later : (other : List ℕ × List ℕ) → get_or actions.placed (m + j) other ≡ other → m < m + j → ⊥
                   later other is_2 less =
-                      let (l, first, within_3, is_3, from_is) = leaves.left_before run (m + j) other within_2 is_2 in
-                      let leaves_to : Contains actions.staged (first.0, other.0) =
-                      (l, within_3, subst (λ b. get_or actions.staged l (first.0, b) ≡ (first.0, b)) from_is is_3) in
-                      let other_to = destinations.destination run first.0 other.0 other.1 (leaves.leaves run l first within_3 is_3)
-                      leaves_to (m + j, within_2, is_2) in
+                      let other_to = ways.destination run (m + j) other within_2 is_2 in
                       let front_is : front ≡ other_to.place ++ below =
                       under ∙ ap (λ top. top ++ below)
                       (ap (λ (other : List (List ℕ) × List (List ℕ)). other.1) (here other is_2) ∙ other_to.named) in
@@ -489,16 +420,12 @@ module _ {entries : List Entry} {pages changed : List (List Step)} {moves : List
                       let place_is : to.place ≡ other_to.place ++ n ∷ ns =
                       split ∙ ap (λ front. front ++ q ∷ []) front_is ∙ append_assoc other_to.place below (q ∷ [])
                       ∙ ap (λ rest. other_to.place ++ rest) rest_is in
-                      let (rest, is_below) = IsBelow-joined other_to.place n ns other_to.some in
                       let second : List ℕ × List ℕ → List ℕ = λ step. step.1 in
-                      run.above_first m (m + j) less (rw length-map within_2) (
-                        rest,
-                        get_or-map second actions.placed m step [] within ∙ ap second is ∙ to.spelled
-                            ∙ ap (join_with_byte slash) place_is ∙ is_below
-                            ∙ ap (λ top. top ++ slash ∷ rest)
-                            (sym (get_or-map second actions.placed (m + j) other [] within_2 ∙ ap second is_2
-                            ∙ other_to.spelled)),
-                      )
+                      run.above_first m (m + j) less (rw length-map within_2)
+                      (IsBelow-spelled (get_or (map second actions.placed) (m + j) []) (get_or (map second actions.placed) m [])
+                      other_to.place n ns other_to.some
+                      (get_or-map_element second actions.placed (m + j) other [] within_2 is_2 ∙ other_to.spelled)
+                      (get_or-map_element second actions.placed m step [] within is ∙ to.spelled ∙ ap (join_with_byte slash) place_is))
 
           -- so a directory of the tree that comes to the directory above is there
           early-old : (start : List (List ℕ)) → HasDirectoryAt entries start → carried (renames_of actions) start ≡ front
@@ -507,8 +434,9 @@ module _ {entries : List Entry} {pages changed : List (List Step)} {moves : List
             start,
             at,
             carried-still (drop m (coming actions)) (carried (take (length actions.staged + m) (renames_of actions)) start) front late
-                (sym (carried-append (take (length actions.staged + m) (renames_of actions)) (drop m (coming actions)) start)
-                ∙ ap (λ renames. carried renames start) split-renames ∙ comes),
+                (ap (carried (drop m (coming actions))) (carried-coming actions m start)
+                ∙ sym (carried-take (coming actions) m (carried (leaving actions) start)) ∙ sym (carrying.carried-in_turn run start)
+                ∙ comes),
           )
 
           -- and so is one that is made
@@ -520,9 +448,7 @@ module _ {entries : List Entry} {pages changed : List (List Step)} {moves : List
             within_2,
             is_2,
             carried-still (drop m (coming actions)) (carried (take m (coming actions)) (names_of text)) front late
-                (sym (carried-append (take m (coming actions)) (drop m (coming actions)) (names_of text))
-                ∙ ap (λ renames. carried renames (names_of text)) (take-append-drop m (coming actions))
-                ∙ carried-missing i text it ∙ place_is),
+                (sym (carried-take (coming actions) m (names_of text)) ∙ carried-missing i text it ∙ place_is),
           )
 
           -- what is above the new path of a move is there
@@ -553,10 +479,8 @@ module _ {entries : List Entry} {pages changed : List (List Step)} {moves : List
               let (e, entry, within_2, is_2, at) = HasDirectoryAt-above entries pages run.whole false front q [] some
               (subst (λ place. Any (IsAt false place) entries) file_is file.file) in
               let stays : IsLeftInPlace moves (components entry.path) =
-              λ place k others leads_2 takes.
-              left file.place k (others ++ q ∷ []) file.leads
-              (takes-more moves place file.place (q ∷ []) others k takes
-              (file_is ∙ ap (λ front. front ++ q ∷ []) (some_of (sym at.leads ∙ leads_2)))) in
+              IsLeftInPlace-above moves (path_at changed c) (components entry.path) file.place front (q ∷ []) file.leads at.leads
+              file_is left in
               inl (early-old front (e, entry, within_2, is_2, at)
               (ends.carried-directory run (components entry.path) (components entry.path) front front at.leads
               (e, entry, within_2, is_2, at) (inr (stays, refl)) at.leads))
@@ -568,61 +492,36 @@ module _ {entries : List Entry} {pages changed : List (List Step)} {moves : List
               file : LeadsToFile entries (path_at changed c)
               file = run.files c [] inside
 
-              new : (top : List (List ℕ)) × (place_of (move_at moves j).new ≡ Some top) × (top ≢ []) × arrivals.NotReserved top
-              new = arrivals.new_place run j taken.nearest.takes.within
+              new : arrivals.IsNewPlace moves target j taken.below
+              new = arrivals.taken_place run (path_at changed c) target taken
 
-              place_is : to.place ≡ new.0 ++ taken.below
-              place_is =
-                  some_of (sym leads ∙ ap place_of taken.new
-                  ∙ arrivals.place-below run (move_at moves j).new new.0 taken.below new.1)
+              place_is : to.place ≡ new.top ++ taken.below
+              place_is = some_of (sym leads ∙ new.arrives)
 
               by : (taken.below ≡ []) ⊎ ((below : List (List ℕ)) × (last : List ℕ) × (taken.below ≡ below ++ last ∷ []))
                   → HasOldDirectory entries actions m front ⊎ HasMadeDirectory actions made m front
               by (inl none) =
                   held-move some j taken.nearest.takes.within
-                  (new.1 ∙ ap Some (sym (place_is ∙ ap (λ below. new.0 ++ below) none ∙ append-nil new.0)))
+                  (new.leads ∙ ap Some (sym (place_is ∙ ap (λ below. new.top ++ below) none ∙ append-nil new.top)))
               by (inr (below, n, below_is)) =
                   let top = taken.nearest.takes.top in
-                  let same : (new.0 ++ below) ++ n ∷ [] ≡ front ++ q ∷ [] =
-                  append_assoc new.0 below (n ∷ []) ∙ ap (λ below. new.0 ++ below) (sym below_is) ∙ sym place_is ∙ split in
-                  let front_is : new.0 ++ below ≡ front = push_front (new.0 ++ below) front n q same in
-                  let page_is : taken.place ≡ (top ++ below) ++ n ∷ [] =
-                  taken.nearest.takes.down ∙ ap (λ below. top ++ below) below_is ∙ sym (append_assoc top below (n ∷ [])) in
-                  let file_is : file.place ≡ (top ++ below) ++ n ∷ [] = some_of (sym file.leads ∙ taken.leads) ∙ page_is in
-                  let (b, old_place, old, there) = IsThere-place entries pages run.whole (move_at moves j).old
-                  (run.accepted.apart.come.leave.olds j taken.nearest.takes.within).there in
-                  let some_top : top ≢ [] =
-                  λ none. IsAt-some entries pages run.whole b old_place there (some_of (sym old ∙ taken.nearest.takes.old) ∙ none) in
+                  let same : (new.top ++ below) ++ n ∷ [] ≡ front ++ q ∷ [] =
+                  append_assoc new.top below (n ∷ []) ∙ ap (λ below. new.top ++ below) (sym below_is) ∙ sym place_is ∙ split in
+                  let (front_is, last_is) = same_from_push (new.top ++ below) front n q same in
+                  let file_is : file.place ≡ (top ++ below) ++ n ∷ [] =
+                  some_of (sym file.leads ∙ taken.leads) ∙ taken.nearest.takes.down ∙ ap (λ below. top ++ below) below_is
+                  ∙ sym (append_assoc top below (n ∷ [])) in
+                  let (b, there) = carrying.old_entry run j taken.nearest.takes.within top taken.nearest.takes.old in
+                  let some_top : top ≢ [] = IsAt-some entries pages run.whole b top there in
                   let (e, entry, within_2, is_2, at) =
                   HasDirectoryAt-above entries pages run.whole false (top ++ below) n [] (some_append top below some_top)
                   (subst (λ place. Any (IsAt false place) entries) file_is file.file) in
-                  let long = ap length below_is ∙ length-append below (n ∷ []) in
                   let target_is : IsTreePath moves (components entry.path) ((move_at moves j).new ++ map name below) =
-                  inl (record {
-                    place = top ++ below;
-                    leads = at.leads;
-                    move = j;
-                    below = below;
-                    nearest = record {
-                      takes = record {
-                        within = taken.nearest.takes.within;
-                        top = top;
-                        old = taken.nearest.takes.old;
-                        down = refl;
-                      };
-                      nearest = λ k others takes.
-                          let more : length taken.below ≤ length (others ++ n ∷ []) =
-                          taken.nearest.nearest k (others ++ n ∷ [])
-                          (takes-more moves (top ++ below) taken.place (n ∷ []) others k takes page_is) in
-                          let long_2 = length-append others (n ∷ []) in
-                          omega (arith, more, long, long_2);
-                    };
-                    new = refl;
-                  }) in
+                  inl (IsTakenTo-above moves (path_at changed c) (components entry.path) target taken below (n ∷ []) below_is at.leads) in
                   inl (early-old (top ++ below) (e, entry, within_2, is_2, at)
                   (ends.carried-directory run (components entry.path) ((move_at moves j).new ++ map name below)
                   (top ++ below) front at.leads (e, entry, within_2, is_2, at) target_is
-                  (arrivals.place-below run (move_at moves j).new new.0 below new.1 ∙ ap Some front_is)))
+                  (arrivals.place-below run (move_at moves j).new new.top below new.leads ∙ ap Some front_is)))
 
           held : (front ≡ []) ⊎ (HasOldDirectory entries actions m front ⊎ HasMadeDirectory actions made m front)
           held = by front refl
@@ -642,14 +541,8 @@ module _ {entries : List Entry} {pages changed : List (List Step)} {moves : List
         unmade (i, text, within_2, is_2, there) =
             let it = made-at i text within_2 is_2 in
             let (g, inside, arrives) = comes-entry in
-            let stays : carried (drop m (coming actions)) to.place ≡ to.place =
-            carried-elsewhere (drop m (coming actions)) to.place
-            (All-drop (λ other. ¬ IsUnder to.place other.0) m (coming actions) (carrying.end_clear run to.place to.ends)) in
             let place_is : it.at.place ≡ to.place =
-            sym (carried-missing i text it)
-            ∙ ap (λ renames. carried renames (names_of text)) (sym (take-append-drop m (coming actions)))
-            ∙ carried-append (take m (coming actions)) (drop m (coming actions)) (names_of text)
-            ∙ ap (carried (drop m (coming actions))) (there ∙ to.named) ∙ stays in
+            sym (carried-missing i text it) ∙ carrying.carried-settled run m (names_of text) to.place (there ∙ to.named) to.ends in
             none-comes it.directory it.at g inside (arrives ∙ ap Some (sym place_is))
 
         open_at : IsOpen entries actions made m (names_of step.1)

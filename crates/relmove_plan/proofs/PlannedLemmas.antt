@@ -6,7 +6,7 @@ use Rattle.std.proofs.lemmas.List.{get_or-map, length-map}
 use Rattle.std.proofs.lemmas.List.Elements.{All-head, All-tail}
 use Rattle.std.proofs.lemmas.Simd.{map-map}
 use Rattle.std.proofs.lemmas.Slice.Zip.{AllZip-long}
-use Rattle.relative_path.specs.Steps.{name, components}
+use Rattle.relative_path.specs.Steps.{Step, name, components}
 use Rattle.relative_path.specs.Normalizing.{IsNormalTextOf}
 use Rattle.relative_path.specs.Walk.{IsSame}
 use Rattle.relative_path.proofs.ForCallers.{IsSame-sym, IsSame-trans}
@@ -28,15 +28,10 @@ use Rattle.relmove_actions.specs.declared.actions.Actions.{Actions}
 use Rattle.relmove_steps.specs.StagingNames.{AreFreeNames}
 use Rattle.relmove_steps.specs.NewFiles.{HaveOwnFiles, LeaveOnce}
 use Rattle.relmove_steps.specs.Pages.{changed_paths, page_paths}
-use Rattle.relmove_steps.specs.Directories.{MakesMissing}
-use Rattle.relmove_plan.proofs.RunWords.{CanBeMade, CanCome, DirectoriesArrive, NothingInTheWay}
 use Rattle.relmove_steps.specs.Actions.{AboveFirst, BelowFirst, DoesMove, LosesNothing, OnlyTheseLeave, RemovesAt, ReplacesChanged, ReplacesPage, ReplacesPages, WritesPages, staged_names, pages_written, rename_text, action_texts}
 use Rattle.relmove_plan.specs.WholeTrees.{IsWhole, LeadsToFile}
-use Rattle.relmove_plan.proofs.FreeWaysLemmas.{NothingInTheWay-actions}
 use Rattle.relmove_plan.proofs.KnownRunsLemmas.{IsKnownRun, IsReplaced}
 use Rattle.relmove_plan.proofs.LeavingLemmas.{All-changed_pages, All-changed_paths, AreDistinct-changed_paths}
-use Rattle.relmove_plan.proofs.MadeLemmas.{DirectoriesArrive-made}
-use Rattle.relmove_plan.proofs.OpenLemmas.{CanBeMade-made, CanCome-actions}
 use Rattle.relmove_steps.proofs.ForCallers.{components-free}
 
 -- each entry has one path after the moves
@@ -106,43 +101,47 @@ module _ {entries : List Entry} {pages : List SitePage} {news : List MovedSitePa
             )
 
     -- a page that changes is a file of the tree too
-    changed_files : All (LeadsToFile entries) (changed_paths pages news)
+    pub changed_files : All (LeadsToFile entries) (changed_paths pages news)
     changed_files = All-changed_paths (LeadsToFile entries) pages news planned.whole.files
 
-    below_first : BelowFirst (map (λ step. step.0) (action_texts actions).staged)
+    pub below_first : BelowFirst (map (λ step. step.0) (action_texts actions).staged)
     below_first =
         subst BelowFirst (sym (map-map (λ (step : List ℕ × List ℕ). step.0) rename_text actions.staged.items)) planned.staged
 
-    single : All (λ staging. components staging ≡ name staging ∷ []) (staged_names (action_texts actions))
+    pub single : All (λ staging. components staging ≡ name staging ∷ []) (staged_names (action_texts actions))
     single = components-free (entry_paths entries) (staged_names (action_texts actions)) planned.names
 
-    above_first : AboveFirst (map (λ step. step.1) (action_texts actions).placed)
+    pub above_first : AboveFirst (map (λ step. step.1) (action_texts actions).placed)
     above_first =
         subst AboveFirst (sym (map-map (λ (step : List ℕ × List ℕ). step.1) rename_text actions.placed.items)) planned.placed
 
     -- no page has two new texts
-    one_text : AllPairs (λ one other. one.0 ≢ other.0) (action_texts actions).texts
+    pub one_text : AllPairs (λ one other. one.0 ≢ other.0) (action_texts actions).texts
     one_text = λ i j d less within same.
-        let texts = (action_texts actions).texts in
-        let paths = changed_paths pages news in
-        let long : length (pages_written (action_texts actions)) ≡ length paths =
-        AllZip-long IsNormalTextOf paths (pages_written (action_texts actions)) planned.texts in
-        let count = length-map texts (λ (new : List ℕ × List ℕ × List ℕ). new.0) in
-        let within_2 : j < length paths = omega (arith, within, long, count) in
-        let within_3 : i < length paths = omega (arith, less, within_2) in
-        let one : IsNormalTextOf (path_at paths i) (get_or texts i d).0 =
-        subst (IsNormalTextOf (path_at paths i))
-        (get_or-map (λ (new : List ℕ × List ℕ × List ℕ). new.0) texts i d [] (omega (arith, less, within)))
-        (AllZip-at IsNormalTextOf paths (pages_written (action_texts actions)) i [] [] planned.texts within_3) in
-        let two : IsNormalTextOf (path_at paths j) (get_or texts j d).0 =
-        subst (IsNormalTextOf (path_at paths j))
-        (get_or-map (λ (new : List ℕ × List ℕ × List ℕ). new.0) texts j d [] within)
-        (AllZip-at IsNormalTextOf paths (pages_written (action_texts actions)) j [] [] planned.texts within_2) in
-        (AreDistinct-changed_paths pages news planned.whole.pages_distinct j within_2).first i less
+        let one = normal_at i d (omega (arith, less, within)) in
+        let two = normal_at j d within in
+        (AreDistinct-changed_paths pages news planned.whole.pages_distinct j (omega (arith, within, long))).first i less
         (IsSame-trans two.same (IsSame-sym (subst (λ text. IsSame (path_at paths i) (components text)) same one.same)))
+      where
+        paths : List (List Step)
+        paths = changed_paths pages news
+
+        texts : List (List ℕ × List ℕ × List ℕ)
+        texts = (action_texts actions).texts
+
+        long : length texts ≡ length paths
+        long =
+            sym (length-map texts (λ (new : List ℕ × List ℕ × List ℕ). new.0))
+            ∙ AllZip-long IsNormalTextOf paths (pages_written (action_texts actions)) planned.texts
+
+        normal_at : (i : ℕ) (d : List ℕ × List ℕ × List ℕ) → i < length texts
+            → IsNormalTextOf (path_at paths i) (get_or texts i d).0
+        normal_at i d within =
+            subst (IsNormalTextOf (path_at paths i)) (get_or-map (λ (new : List ℕ × List ℕ × List ℕ). new.0) texts i d [] within)
+            (AllZip-at IsNormalTextOf paths (pages_written (action_texts actions)) i [] [] planned.texts (omega (arith, within, long)))
 
     -- each page that changes is replaced
-    are_replaced : All (IsReplaced moves (action_texts actions)) (changed_paths pages news)
+    pub are_replaced : All (IsReplaced moves (action_texts actions)) (changed_paths pages news)
     are_replaced =
         All-changed_pages (IsReplaced moves (action_texts actions)) IsKnownPage pages news
         (λ page new changes known. by page new new.text changes known.1 known.2) known_pages
@@ -163,7 +162,7 @@ module _ {entries : List Entry} {pages : List SitePage} {news : List MovedSitePa
           goes = goes;
         }
 
-    pub known : IsKnownRun entries (page_paths pages) (changed_paths pages news) moves rule (action_texts actions)
+    abbrev pub known : IsKnownRun entries (page_paths pages) (changed_paths pages news) moves rule (action_texts actions)
     known = record {
       whole = planned.whole;
       files = changed_files;
@@ -181,27 +180,3 @@ module _ {entries : List Entry} {pages : List SitePage} {news : List MovedSitePa
       replaced = are_replaced;
       one_text = one_text;
     }
-
-    -- ---- what the actions do to the tree
-
-    pub DirectoriesArrive-plan : (after made : List (List ℕ)) → MakesMissing moves (map components after) (action_texts actions) made
-        → DirectoriesArrive moves (map components after) (action_texts actions) made
-    DirectoriesArrive-plan after made makes =
-        DirectoriesArrive-made known (map components after) makes.staging makes.leave made makes.are_made
-
-    pub NothingInTheWay-plan : NothingInTheWay entries (action_texts actions)
-    NothingInTheWay-plan = NothingInTheWay-actions known
-
-    -- ---- each directory can be made, and each rename leads to where something can come
-
-    pub CanBeMade-plan : (made : List (List ℕ))
-        → MakesMissing moves (map components planned.accepted.apart.after) (action_texts actions) made
-        → CanBeMade entries (action_texts actions) made
-    unfolding known
-    CanBeMade-plan made makes = CanBeMade-made known made makes
-
-    pub CanCome-plan : (made : List (List ℕ))
-        → MakesMissing moves (map components planned.accepted.apart.after) (action_texts actions) made
-        → CanCome entries (action_texts actions) made
-    unfolding known
-    CanCome-plan made makes = CanCome-actions known made makes

@@ -1,12 +1,10 @@
 -- Where things go while a run renames, one action after another: the words of the lemmas on the way to `run`.
-use Rattle.std.specs.Prelude.{◌≡◌, ◌⊎◌, ◌<◌, ℕ, Bool, List, [], ◌∷◌, ◌++◌, ◌+◌, map, length, drop, take, slice_index_or, Some, if◌then◌else◌}
+use Rattle.std.specs.Prelude.{◌≡◌, ◌⊎◌, ◌<◌, ℕ, Bool, List, [], ◌∷◌, ◌++◌, ◌+◌, map, length, drop, take, slice_index_or, if◌then◌else◌}
 use Rattle.std.specs.List.{AllZip, Any, starts_with}
 use Rattle.std.specs.Str.{bytes_eq}
-use Rattle.relative_path.specs.Steps.{Step, components}
-use Rattle.relative_path.specs.Walk.{place_of}
+use Rattle.relative_path.specs.Steps.{Step}
 use Rattle.relative_path_moves.specs.Moves.{Move}
 use Rattle.relmove_checks.specs.declared.entry.Entry.{Entry}
-use Rattle.relmove_checks.specs.Trees.{AreAfter}
 use Rattle.relmove_steps.specs.Directories.{AreMissing}
 use Rattle.relmove_steps.specs.Actions.{ActionTexts}
 use Rattle.relmove_trees.specs.FileTrees.{names_of}
@@ -30,18 +28,15 @@ carried (step ∷ actions) place = carried actions (renamed step place)
 abbrev pub renames_of : ActionTexts → List (List (List ℕ) × List (List ℕ))
 renames_of actions = map rename_places (actions.staged ++ actions.placed)
 
--- what is where the one list leads comes by the renames to where the other leads
-pub record ComesTo (renames : List (List (List ℕ) × List (List ℕ))) (cs ds : List Step) : Type 0 where
-  pub from : List (List ℕ)
-  pub to : List (List ℕ)
-  pub leaves : place_of cs ≡ Some from
-  pub arrives : place_of ds ≡ Some to
-  pub carries : carried renames from ≡ to
+-- an entry is at the place before the run, or the place is a new file's
+abbrev pub IsThing : List Entry → ActionTexts → List (List ℕ) → Type 0
+IsThing entries actions start =
+    ((b : Bool) × Any (IsAt b start) entries) ⊎ Any (λ new. names_of new.1 ≡ start) actions.texts
 
--- after the first k renames, something is at the place that was where an entry is, or a new file
+-- after the first k renames, such a thing is at the place
 pub record IsThereAfter (entries : List Entry) (actions : ActionTexts) (k : ℕ) (place : List (List ℕ)) : Type 0 where
   pub start : List (List ℕ)
-  pub thing : ((b : Bool) × Any (IsAt b start) entries) ⊎ Any (λ new. names_of new.1 ≡ start) actions.texts
+  pub thing : IsThing entries actions start
   pub now : carried (take k (renames_of actions)) start ≡ place
 
 -- each rename leads from where something is to where nothing is
@@ -60,11 +55,6 @@ pub record DirectoriesArrive (moves : List Move) (after : List (List Step)) (act
   pub missing : List (List ℕ)
   pub are_missing : AreMissing moves after missing
   pub arrive : AllZip (IsMadeFor actions) missing made
-
--- missing are those at which no entry is after the moves
-abbrev pub MakesDirectories : List Move → List Entry → ActionTexts → List (List ℕ) → Type 0
-MakesDirectories moves entries actions made = (after : List (List ℕ)) × AreAfter moves entries after
-    × DirectoriesArrive moves (map components after) actions made
 
 -- ---- whether something can come to a place while `placed` is done
 
@@ -97,3 +87,9 @@ CanCome entries actions made = (m : ℕ) (step : List ℕ × List ℕ) → m < l
 abbrev pub CanBeMade : List Entry → ActionTexts → List (List ℕ) → Type 0
 CanBeMade entries actions made = (i : ℕ) (text : List ℕ) → i < length made
     → slice_index_or made i text ≡ text → IsOpen entries actions (take i made) 0 (names_of text)
+
+-- the renames of a run and its new directories can be made one after another
+pub record CanRun (entries : List Entry) (actions : ActionTexts) (made : List (List ℕ)) : Type 0 where
+  pub clear : NothingInTheWay entries actions
+  pub make : CanBeMade entries actions made
+  pub come : CanCome entries actions made

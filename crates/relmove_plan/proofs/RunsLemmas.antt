@@ -1,8 +1,8 @@
 -- Where renames carry a place: the first rename whose path is the place's or above it takes the place along.
-use Rattle.std.proofs.Common.{All, Bool, true, false, ◌≡◌, ◌⊎◌, ℕ, zero, suc, ◌<◌, ◌≤◌, List, [], ◌∷◌, ◌++◌, length, drop, take, get_or, inl, inr, refl, sym, ap, subst, ◌∙◌, arith}
+use Rattle.std.proofs.Common.{All, Bool, true, false, ◌≡◌, ◌⊎◌, ℕ, zero, suc, ◌<◌, ◌≤◌, List, [], ◌∷◌, ◌++◌, length, drop, take, get_or, inl, inr, refl, sym, ap, ◌∙◌, arith}
 use Rattle.std.proofs.Math.Seq.{drop-append_seam, take-append_seam}
-use Rattle.std.proofs.lemmas.List.{get_or_default, take-append-drop, take-append-le}
-use Rattle.std.proofs.lemmas.List.Elements.{All-tail}
+use Rattle.std.proofs.lemmas.List.{take-append-drop, take-append-le}
+use Rattle.std.proofs.lemmas.List.Elements.{All-tail, All-take}
 use Rattle.std.specs.List.{starts_with}
 use Rattle.std.specs.Str.{bytes_eq}
 use Rattle.relmove_trees.specs.FileTrees.{IsUnder}
@@ -30,6 +30,13 @@ pub carried-append : (actions more : List (List (List ℕ) × List (List ℕ))) 
 carried-append [] more place = refl
 carried-append (step ∷ actions) more place = carried-append actions more (renamed step place)
 
+-- the first m renames, and then the others
+pub carried-take : (actions : List (List (List ℕ) × List (List ℕ))) (m : ℕ) (place : List (List ℕ))
+    → carried actions place ≡ carried (drop m actions) (carried (take m actions) place)
+carried-take actions m place =
+    ap (λ renames. carried renames place) (sym (take-append-drop m actions))
+    ∙ carried-append (take m actions) (drop m actions) place
+
 pub carried-elsewhere : (actions : List (List (List ℕ) × List (List ℕ))) (place : List (List ℕ))
     → All (λ step. ¬ IsUnder place step.0) actions → carried actions place ≡ place
 carried-elsewhere [] place elsewhere = refl
@@ -38,23 +45,28 @@ carried-elsewhere (step ∷ actions) place elsewhere =
     ∙ carried-elsewhere actions place
     (All-tail (λ (step : List (List ℕ) × List (List ℕ)). ¬ IsUnder place step.0) step actions elsewhere)
 
--- the place is taken along by rename number i, by none before it, and by none after it
-pub carried-by : (actions : List (List (List ℕ) × List (List ℕ))) (i : ℕ) (d : List (List ℕ) × List (List ℕ))
-    (place below : List (List ℕ)) → i < length actions → place ≡ (get_or actions i d).0 ++ below
-    → ((j : ℕ) → j < i → ¬ IsUnder place (get_or actions j d).0)
-    → ((j : ℕ) → i < j → j < length actions → ¬ IsUnder ((get_or actions i d).1 ++ below) (get_or actions j d).0)
-    → carried actions place ≡ (get_or actions i d).1 ++ below
-carried-by [] i d place below within is before after = absurd (let w : i < 0 = within in omega (arith, w))
-carried-by (step ∷ actions) zero d place below within is before after =
-    ap (carried actions) (renamed-under step.0 step.1 place below is)
+-- the root stays, if nothing leaves from there
+pub carried-root : (actions : List (List (List ℕ) × List (List ℕ))) (k : ℕ) → All (λ step. ¬ IsUnder [] step.0) actions
+    → carried (take k actions) [] ≡ []
+carried-root actions k apart =
+    carried-elsewhere (take k actions) []
+    (All-take (λ (step : List (List ℕ) × List (List ℕ)). ¬ IsUnder [] step.0) k actions apart)
+
+-- the place is taken along by rename number i and by none before it, and nothing leaves from where it comes to
+pub carried-by : (actions : List (List (List ℕ) × List (List ℕ))) (i : ℕ) (step : List (List ℕ) × List (List ℕ))
+    (place below : List (List ℕ)) → i < length actions → get_or actions i step ≡ step → place ≡ step.0 ++ below
+    → ((j : ℕ) → j < i → ¬ IsUnder place (get_or actions j step).0)
+    → All (λ other. ¬ IsUnder (step.1 ++ below) other.0) actions → carried actions place ≡ step.1 ++ below
+carried-by [] i step place below within is under before clear = absurd (let w : i < 0 = within in omega (arith, w))
+carried-by (first ∷ actions) zero step place below within is under before clear =
+    ap (λ first. carried actions (renamed first place)) is
+    ∙ ap (carried actions) (renamed-under step.0 step.1 place below under)
     ∙ carried-elsewhere actions (step.1 ++ below)
-    (λ k e l.
-    subst (λ (other : List (List ℕ) × List (List ℕ)). ¬ IsUnder (step.1 ++ below) other.0) (get_or_default actions k d e l)
-    (after (suc k) (omega arith) (omega (arith, l))))
-carried-by (step ∷ actions) (suc i) d place below within is before after =
-    ap (carried actions) (renamed-elsewhere step.0 step.1 place (before zero (omega arith)))
-    ∙ carried-by actions i d place below (omega (arith, within)) is (λ j l. before (suc j) (omega (arith, l)))
-    (λ j l m. after (suc j) (omega (arith, l)) (omega (arith, m)))
+    (All-tail (λ (other : List (List ℕ) × List (List ℕ)). ¬ IsUnder (step.1 ++ below) other.0) first actions clear)
+carried-by (first ∷ actions) (suc i) step place below within is under before clear =
+    ap (carried actions) (renamed-elsewhere first.0 first.1 place (before zero (omega arith)))
+    ∙ carried-by actions i step place below (omega (arith, within)) is under (λ j l. before (suc j) (omega (arith, l)))
+    (All-tail (λ (other : List (List ℕ) × List (List ℕ)). ¬ IsUnder (step.1 ++ below) other.0) first actions clear)
 
 -- what comes to a place is there already, if no rename leads to there or to above
 pub carried-still : (actions : List (List (List ℕ) × List (List ℕ))) (place end : List (List ℕ))

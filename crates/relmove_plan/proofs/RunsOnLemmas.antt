@@ -18,7 +18,7 @@ use Rattle.relmove_steps.specs.Directories.{AreAllLeftBehind, IsLeftBehindByMove
 use Rattle.relmove_steps.specs.Pages.{changed_paths, page_paths}
 use Rattle.relmove_trees.specs.FileTrees.{File, Place, Tree, names_of}
 use Rattle.relmove_plan.specs.KnownTrees.{AgreesWith, HasTexts, IsAfterMoves, RunsOn, tree_actions}
-use Rattle.relmove_plan.proofs.RunWords.{MakesDirectories}
+use Rattle.relmove_plan.proofs.RunWords.{DirectoriesArrive}
 use Rattle.relmove_plan.specs.MovedTrees.{IsLeftBehind}
 use Rattle.relmove_trees.specs.TreeActions.{LeadTo}
 use Rattle.relmove_plan.proofs.ComingLemmas.{one_by_key}
@@ -26,13 +26,16 @@ use Rattle.relmove_plan.proofs.EmptiedLemmas.{among-left, deepest_first, left-am
 use Rattle.relmove_plan.proofs.KnownRunsLemmas.{IsKnownRun}
 use Rattle.relmove_trees.proofs.LeadToLemmas.{LeadTo-weaker}
 use Rattle.relmove_plan.proofs.LeavingLemmas.{All-changed_pages, All-changed_paths}
-use Rattle.relmove_plan.proofs.MovedTreesLemmas.{HasNewTexts}
+use Rattle.relmove_plan.proofs.MovedTreesLemmas.{HasNewTexts, IsRunOn}
 use Rattle.relmove_plan.proofs.NewTextsLemmas.{IsTreeOf}
 use Rattle.relmove_plan.proofs.PlannedLemmas as plans
-use Rattle.relmove_plan.proofs.PlannedLemmas.{CanBeMade-plan, CanCome-plan, DirectoriesArrive-plan, IsPlanned, NothingInTheWay-plan}
+use Rattle.relmove_plan.proofs.PlannedLemmas.{IsPlanned}
 use Rattle.relmove_plan.proofs.TreeRemovesLemmas.{IsAmong, IsCleared-same}
 use Rattle.relmove_plan.proofs.UnreadLemmas.{is_aside}
 use Rattle.relmove_plan.proofs.WholeRunsLemmas.{leads}
+use Rattle.relmove_plan.proofs.FreeWaysLemmas.{NothingInTheWay-actions}
+use Rattle.relmove_plan.proofs.OpenLemmas.{CanBeMade-made, CanCome-actions}
+use Rattle.relmove_plan.proofs.MadeLemmas.{DirectoriesArrive-made}
 
 -- what holds of two lists by two relations holds by both
 AllZip-both : {A B : Type 0} (R S : A → B → Type 0) (xs : List A) (ys : List B) → AllZip R xs ys → AllZip S xs ys
@@ -51,15 +54,12 @@ module _ {entries : List Entry} {pages : List SitePage} {news : List MovedSitePa
     (tree now : Tree) (agrees : AgreesWith entries pages moves (action_texts actions) tree)
     (texts : HasTexts pages news tree now)
   where
-    run : IsKnownRun entries (page_paths pages) (changed_paths pages news) moves rule (action_texts actions)
+    abbrev run : IsKnownRun entries (page_paths pages) (changed_paths pages news) moves rule (action_texts actions)
     run = plans.known planned
 
-    makes : MakesDirectories moves entries (action_texts actions) made
-    makes = (
-      planned.accepted.apart.after,
-      planned.accepted.apart.are_after,
-      DirectoriesArrive-plan planned planned.accepted.apart.after made missing,
-    )
+    arrive : DirectoriesArrive moves (map components planned.accepted.apart.after) (action_texts actions) made
+    arrive =
+        DirectoriesArrive-made run (map components planned.accepted.apart.after) missing.staging missing.leave made missing.are_made
 
     -- the components lead to a file
     abbrev LeadsToText : List Step → Type 0
@@ -78,7 +78,7 @@ module _ {entries : List Entry} {pages : List SitePage} {news : List MovedSitePa
         | inl root ↦ inl root
         | inr (inl entry) ↦ inr (inl entry)
         | inr (inr unread) ↦
-            inr (inr (is_aside run made makes tree agrees.whole agrees.staging agrees.new_files place some unread))
+            inr (inr (is_aside run made arrive tree agrees.whole agrees.staging agrees.new_files place some unread))
       ];
     }
 
@@ -115,12 +115,21 @@ module _ {entries : List Entry} {pages : List SitePage} {news : List MovedSitePa
             (λ page new changes known. has_text page new new.text changes known.0 known.1)
             (AllZip-both (ReplacesChanged (action_texts actions)) IsNow pages news planned.replaced texts.texts)
 
+    on : IsRunOn entries moves (changed_paths pages news) (map components planned.accepted.apart.after) (action_texts actions) made
+        tree now
+    on = record {
+      can = record {
+        clear = NothingInTheWay-actions run;
+        make = CanBeMade-made run made missing;
+        come = CanCome-actions run made missing;
+      };
+      arrive = arrive;
+      of = is_tree;
+      now_is = has_texts;
+    }
+
     pub runs : LeadTo (tree_actions (action_texts actions) made emptied) (IsAfterMoves moves news now) tree
-    unfolding run
     runs =
-        let clear = NothingInTheWay-plan planned in
-        let can_make = CanBeMade-plan planned made missing in
-        let can_come = CanCome-plan planned made missing in
         LeadTo-weaker (tree_actions (action_texts actions) made emptied) _ (IsAfterMoves moves news now)
         (λ end (moved, is_moved, cleared). record {
           moved = moved;
@@ -129,9 +138,8 @@ module _ {entries : List Entry} {pages : List SitePage} {news : List MovedSitePa
               (left-among run news emptied left all) (among-left run news emptied left all) cleared;
         })
         tree
-        (leads run made clear can_make can_come makes tree now is_tree has_texts emptied
-        (deepest_first run emptied order differ left)
-        (left_there run made clear can_make can_come makes tree now is_tree has_texts emptied left))
+        (leads run made tree now on emptied (deepest_first run emptied order differ left)
+        (left_there run made tree now on emptied left))
 
 pub RunsOn-plan : {entries : List Entry} {pages : List SitePage} {news : List MovedSitePage}
     {finds : List ℕ → List Target → Type 0} {moves : List Move} {rule : NameRule} {actions : Actions}

@@ -1,7 +1,7 @@
 -- The places from which a run's renames lead, in a whole tree: entries, and new files, which are where no entry is.
-use Rattle.std.proofs.Common.{All, Bool, false, ◌≡◌, ◌≢◌, ℕ, zero, suc, ◌<◌, List, [], ◌∷◌, ◌++◌, Contains, Some, length, map, get_or, inl, inr, refl, sym, ap, subst, ◌∙◌, arith}
+use Rattle.std.proofs.Common.{All, Bool, false, ◌≡◌, ◌≢◌, ℕ, zero, suc, ◌<◌, List, [], ◌∷◌, ◌++◌, Contains, Some, length, map, get_or, inl, inr, refl, sym, ap, subst, ◌∙◌, arith, ◌⊎◌}
 use Rattle.std.specs.List.{Any, join_with_byte}
-use Rattle.std.proofs.lemmas.List.{length-map, map-append}
+use Rattle.std.proofs.lemmas.List.{get_or-map, get_or_default, length-map, map-append}
 use Rattle.relative_path.specs.Steps.{Step, name, components, slash}
 use Rattle.relative_path.specs.Walk.{IsSame, place_of}
 use Rattle.relative_path.specs.Normalizing.{IsNormalTextOf}
@@ -21,12 +21,44 @@ use Rattle.relmove_plan.specs.WholeTrees.{IsAt, IsHeld, LeadsToFile, IsWhole}
 use Rattle.relmove_plan.proofs.PlacesLemmas.{joined-names, names_of-normal, names_of-names, spelled-place}
 use Rattle.relmove_plan.proofs.WholeTreesLemmas.{IsAt-some, IsNoneAt-under, IsSame-one_place, LeadsToFile-under, not_empty, path_at-entry, some_of}
 use Rattle.relmove_trees.proofs.FileTreesLemmas.{last_view}
+use Rattle.std.proofs.lemmas.List.Elements.{All-tail, All-nil, All-cons}
 
 -- an element by its number
 pub element : {X : Type 0} (xs : List X) (k : ℕ) → k < length xs → (x : X) × (get_or xs k x ≡ x)
 element [] k within = absurd (let w : k < 0 = within in omega (arith, w))
 element (x ∷ xs) zero within = (x, refl)
 element (x ∷ xs) (suc k) within = let (y, is) = element xs k (omega (arith, within)) in (y, is)
+
+-- what holds of each element by its number holds of all
+pub All-element : {X : Type 0} (P : X → Type 0) (xs : List X)
+    → ((k : ℕ) (x : X) → k < length xs → get_or xs k x ≡ x → P x) → All P xs
+All-element P xs each = λ k d within.
+    let (x, is) = element xs k within in
+    subst P (sym (get_or_default xs k d x within ∙ is)) (each k x within is)
+
+-- P holds of one of the elements, or of none, if that can be told of each
+pub any_or : {X : Type 0} (P : X → Type 0) (xs : List X) → All (λ x. P x ⊎ (¬ P x)) xs → Any P xs ⊎ All (λ x. ¬ P x) xs
+any_or {X} P [] each = inr (All-nil (λ (x : X). ¬ P x))
+any_or {X} P (x ∷ xs) each = by (each 0 x (omega arith)) (any_or P xs (All-tail (λ (x : X). P x ⊎ (¬ P x)) x xs each))
+  where
+    by : P x ⊎ (¬ P x) → Any P xs ⊎ All (λ x. ¬ P x) xs → Any P (x ∷ xs) ⊎ All (λ x. ¬ P x) (x ∷ xs)
+    by (inl holds) rest = inl (0, x, omega arith, refl, holds)
+    by (inr fails) (inl (k, y, within, is, holds)) = inl (suc k, y, omega (arith, within), is, holds)
+    by (inr fails) (inr none) = inr (All-cons (λ (x : X). ¬ P x) x xs fails none)
+
+-- an element of a mapped list
+pub get_or-map_element : {X Y : Type 0} (f : X → Y) (xs : List X) (k : ℕ) (x : X) (d : Y) → k < length xs → get_or xs k x ≡ x
+    → get_or (map f xs) k d ≡ f x
+get_or-map_element f xs k x d within is = get_or-map f xs k x d within ∙ ap f is
+
+-- what holds of what each element is mapped to holds of each element of the mapped list
+pub each-map : {X Y : Type 0} (f : X → Y) (xs : List X) (P : ℕ → Y → Type 0)
+    → ((k : ℕ) (x : X) → k < length xs → get_or xs k x ≡ x → P k (f x))
+    → (k : ℕ) (y : Y) → k < length (map f xs) → get_or (map f xs) k y ≡ y → P k y
+each-map f xs P each k y within is =
+    let within_2 : k < length xs = rw length-map at within in
+    let (x, x_is) = element xs k within_2 in
+    subst (P k) (sym (get_or-map_element f xs k x y within_2 x_is) ∙ is) (each k x within_2 x_is)
 
 -- a place under another begins with the same name
 pub IsUnder-first : (n m : List ℕ) (ns ms : List (List ℕ)) → IsUnder (n ∷ ns) (m ∷ ms) → n ≡ m

@@ -1,9 +1,11 @@
 -- What new files and directories do to a tree: they are there, and nothing else is new.
-use Rattle.std.proofs.Common.{All, ◌≡◌, ◌≢◌, ◌⊎◌, ℕ, zero, suc, ◌<◌, List, [], ◌∷◌, ◌++◌, Some, None, IsSome, length, get_or, inl, inr, refl, sym, ap, ◌∙◌, append-nil, arith}
-use Rattle.std.proofs.lemmas.List.Elements.{All-tail}
+use Rattle.std.proofs.Common.{All, ◌≡◌, ◌≢◌, ◌⊎◌, ℕ, zero, suc, ◌<◌, List, [], ◌∷◌, ◌++◌, Some, None, IsSome, length, get_or, inl, inr, refl, sym, ap, ◌∙◌, append-nil, arith, map}
+use Rattle.std.proofs.lemmas.List.Elements.{All-tail, All-map}
 use Rattle.relmove_trees.specs.FileTrees.{CanTake, Directory, IsWholeTree, Node, Place, Tree, with_node}
 use Rattle.relmove_plan.proofs.TreeRenamesLemmas.{HasNothing-none}
-use Rattle.relmove_trees.proofs.FileTreesLemmas.{some_is, some_none, with_node-at, with_node-elsewhere, with_node-whole}
+use Rattle.relmove_trees.proofs.FileTreesLemmas.{some_is, some_none, with_node-at, with_node-elsewhere, with_node-whole, place_or}
+use Rattle.std.specs.List.{Any}
+use Rattle.relmove_plan.proofs.SourcesLemmas.{any_or}
 
 -- ---- directories that are made
 
@@ -15,6 +17,14 @@ after_adds (new ∷ news) tree = after_adds news (with_node new.0 (Some new.1) t
 abbrev pub CanAddAll : List (Place × Node) → Tree → Type 0
 CanAddAll [] tree = Unit {0}
 CanAddAll (new ∷ news) tree = CanTake tree new.0 × CanAddAll news (with_node new.0 (Some new.1) tree)
+
+-- one of these is added at the place, or none is
+pub added_or : {X : Type 0} (at : X → Place × Node) (xs : List X) (place : Place)
+    → Any (λ x. (at x).0 ≡ place) xs ⊎ All (λ new. place ≢ new.0) (map at xs)
+added_or {X} at xs place = elim (any_or (λ (x : X). (at x).0 ≡ place) xs (λ k d within. place_or (at (get_or xs k d)).0 place)) [
+  | inl one ↦ inl one
+  | inr none ↦ inr (All-map (λ (new : Place × Node). place ≢ new.0) at xs (λ k d within same. none k d within (sym same)))
+]
 
 -- what is there stays
 pub adds-stays : (news : List (Place × Node)) (tree : Tree) → CanAddAll news tree → (other : Place) → IsSome (tree other)

@@ -190,14 +190,3 @@ pub after_renames-whole : (renames : List (Place × Place)) (tree : Tree) → Is
 after_renames-whole [] tree whole_tree can = whole_tree
 after_renames-whole (rename ∷ renames) tree whole_tree can =
     after_renames-whole renames (after_rename rename tree) (after_rename-whole tree whole_tree rename can.0) can.1
-
--- the root stays
-pub carried-root : (renames : List (Place × Place)) (tree : Tree) → CanRenameAll renames tree → carried renames [] ≡ []
-carried-root [] tree can = refl
-carried-root (rename ∷ renames) tree can =
-    ap (carried renames) (renamed-elsewhere rename.0 rename.1 [] (λ (rest, is). by rest rename.0 refl is))
-    ∙ carried-root renames (after_rename rename tree) can.1
-  where
-    by : (rest from : Place) → rename.0 ≡ from → [] ≡ rename.0 ++ rest → ⊥
-    by rest [] none is = can.0.apart (rename.1, ap (λ from. from ++ rename.1) (sym none))
-    by rest (n ∷ from) some is = cc (is ∙ ap (λ from. from ++ rest) some)

@@ -1,9 +1,8 @@
 -- Each rename leads from where something is, and each rename to a staging name leads to where nothing is.
-use Rattle.std.proofs.Common.{All, Bool, false, ◌≡◌, ◌≢◌, ◌⊎◌, ℕ, ◌<◌, ◌≤◌, ◌+◌, List, [], ◌∷◌, ◌++◌, Contains, length, map, take, get_or, inl, inr, refl, sym, ap, subst, ◌∙◌, append-nil, arith}
+use Rattle.std.proofs.Common.{All, false, ◌≡◌, ◌≢◌, ◌⊎◌, ℕ, ◌<◌, ◌≤◌, ◌+◌, List, [], ◌∷◌, ◌++◌, Contains, length, map, take, get_or, inl, inr, refl, sym, ap, subst, ◌∙◌, append-nil, arith, ◌-◌}
 use Rattle.std.specs.List.{Any, join_with_byte}
-use Rattle.std.proofs.lemmas.List.{get_or-map, get_or-take, get_or_default, length-map, length-take-le, map-append, take-append-le, take_all}
+use Rattle.std.proofs.lemmas.List.{get_or-take, length-map, length-take-le, map-append, take-append-le, get_or-append-add, get_or_append_left, length-append}
 use Rattle.std.proofs.lemmas.List.Elements.{All-take}
-use Rattle.std.proofs.lemmas.List.Sorted.{All-permutation}
 use Rattle.relative_path.specs.Steps.{Step, name, slash}
 use Rattle.relative_path.proofs.ForCallers.{walk-names}
 use Rattle.relative_path_moves.specs.Moves.{Move, move_at}
@@ -11,22 +10,18 @@ use Rattle.relative_path_places.specs.PlaceIndex.{path_at}
 use Rattle.relmove_checks.specs.declared.entry.Entry.{Entry}
 use Rattle.relmove_checks.specs.declared.name_rule.NameRule.{NameRule}
 use Rattle.relmove_trees.specs.FileTrees.{IsUnder, names_of}
-use Rattle.relmove_plan.proofs.RunWords.{rename_places, carried, renames_of, IsThereAfter}
-use Rattle.relmove_steps.specs.Actions.{ActionTexts, LeavesFrom, of_move, of_page, of_text, placed_names, staged_names}
+use Rattle.relmove_plan.proofs.RunWords.{rename_places, carried, renames_of, IsThereAfter, IsThing}
+use Rattle.relmove_steps.specs.Actions.{ActionTexts, LeavesFrom, of_move, of_page, of_text}
 use Rattle.relmove_plan.specs.WholeTrees.{IsAt}
-use Rattle.relmove_plan.proofs.CarriedLemmas.{HasNoName, coming, is_reserved_text, leaving}
+use Rattle.relmove_plan.proofs.CarriedLemmas.{coming, leaving}
 use Rattle.relmove_plan.proofs.CarriedLemmas as carrying
 use Rattle.relmove_plan.proofs.KnownRunsLemmas.{IsKnownRun}
 use Rattle.relmove_plan.proofs.FirstsLemmas.{FirstUnder, first_under, take-append_more}
 use Rattle.relmove_plan.proofs.PlacesLemmas.{names_of-normal}
 use Rattle.relmove_plan.proofs.RunsLemmas.{carried-append, carried-by, carried-elsewhere}
-use Rattle.relmove_plan.proofs.SourcesLemmas.{IsThere-place, IsUnder-first, element}
+use Rattle.relmove_plan.proofs.SourcesLemmas.{IsUnder-first, element, get_or-map_element}
 use Rattle.relmove_plan.proofs.WholeTreesLemmas.{IsNoneAt-under, not_empty}
-
--- an entry is at the place before the run, or the place is a new file's
-abbrev pub IsThing : List Entry → ActionTexts → List (List ℕ) → Type 0
-IsThing entries actions start =
-    ((b : Bool) × Any (IsAt b start) entries) ⊎ Any (λ new. names_of new.1 ≡ start) actions.texts
+use Rattle.std.proofs.lemmas.Bool.{cases_lt}
 
 -- the first renames are those to the staging names
 pub renames-leaving : (actions : ActionTexts) (k : ℕ) → k ≤ length actions.staged
@@ -42,6 +37,56 @@ renames-coming actions m =
     ap (take (length actions.staged + m)) (map-append rename_places actions.staged actions.placed)
     ∙ ap (λ n. take (n + m) (leaving actions ++ coming actions)) (sym (length-map actions.staged rename_places))
     ∙ take-append_more (leaving actions) (coming actions) m
+
+-- what they carry, they carry from where it left to
+pub carried-coming : (actions : ActionTexts) (m : ℕ) (place : List (List ℕ))
+    → carried (take (length actions.staged + m) (renames_of actions)) place
+    ≡ carried (take m (coming actions)) (carried (leaving actions) place)
+carried-coming actions m place =
+    ap (λ renames. carried renames place) (renames-coming actions m)
+    ∙ carried-append (leaving actions) (take m (coming actions)) place
+
+-- a rename to a staging name has its number in the run
+pub get_or-leaving : (actions : ActionTexts) (i : ℕ) (step : List ℕ × List ℕ) (d : List (List ℕ) × List (List ℕ))
+    → i < length actions.staged → get_or actions.staged i step ≡ step → get_or (renames_of actions) i d ≡ rename_places step
+get_or-leaving actions i step d within is =
+    get_or-map_element rename_places (actions.staged ++ actions.placed) i step d (rw length-append (omega (arith, within)))
+    (get_or_append_left actions.staged actions.placed step i within ∙ is)
+
+-- and one from a staging name comes after all those
+pub get_or-coming : (actions : ActionTexts) (m : ℕ) (step : List ℕ × List ℕ) (d : List (List ℕ) × List (List ℕ))
+    → m < length actions.placed → get_or actions.placed m step ≡ step
+    → get_or (renames_of actions) (length actions.staged + m) d ≡ rename_places step
+get_or-coming actions m step d within is =
+    get_or-map_element rename_places (actions.staged ++ actions.placed) (length actions.staged + m) step d
+    (rw length-append (omega (arith, within))) (get_or-append-add actions.staged actions.placed m step ∙ is)
+
+pub length-renames : (actions : ActionTexts) → length (renames_of actions) ≡ length actions.staged + length actions.placed
+length-renames actions =
+    length-map (actions.staged ++ actions.placed) rename_places ∙ length-append actions.staged actions.placed
+
+-- what holds of the renames to staging names and of those from there holds of each rename of a run
+pub each-rename : (actions : ActionTexts) (P : ℕ → List (List ℕ) × List (List ℕ) → Type 0)
+    → ((i : ℕ) (step : List ℕ × List ℕ) → i < length actions.staged → get_or actions.staged i step ≡ step
+    → P i (rename_places step))
+    → ((m : ℕ) (step : List ℕ × List ℕ) → m < length actions.placed → get_or actions.placed m step ≡ step
+    → P (length actions.staged + m) (rename_places step))
+    → (k : ℕ) (rename : List (List ℕ) × List (List ℕ)) → k < length (renames_of actions)
+    → get_or (renames_of actions) k rename ≡ rename → P k rename
+each-rename actions P first second k rename within is = elim (cases_lt k (length actions.staged)) [
+  | inl less ↦
+      let (step, at) = element actions.staged k less in
+      subst (P k) (sym (get_or-leaving actions k step rename less at) ∙ is) (first k step less at)
+  | inr no_less ↦
+      let m : ℕ = k - length actions.staged in
+      let long = length-renames actions in
+      let k_is : length actions.staged + m ≡ k = omega (arith, no_less) in
+      let inside : m < length actions.placed = omega (arith, no_less, within, long) in
+      let (step, at) = element actions.placed m inside in
+      let here : rename_places step ≡ rename =
+      sym (get_or-coming actions m step rename inside at) ∙ ap (λ k. get_or (renames_of actions) k rename) k_is ∙ is in
+      subst (λ k. P k rename) k_is (subst (P (length actions.staged + m)) here (second m step inside at))
+]
 
 module _ {entries : List Entry} {pages changed : List (List Step)} {moves : List Move} {rule : NameRule} {actions : ActionTexts}
     (run : IsKnownRun entries pages changed moves rule actions)
@@ -61,8 +106,7 @@ module _ {entries : List Entry} {pages changed : List (List Step)} {moves : List
       where
         by : LeavesFrom moves changed actions.texts step.0 → IsThing entries actions (names_of step.0)
         by (of_move k inside normal) =
-            let (b, place, leads, at) =
-            IsThere-place entries pages run.whole (move_at moves k).old (run.accepted.apart.come.leave.olds k inside).there in
+            let (b, place, leads, at) = carrying.old_place run k inside in
             let here : place ≡ names_of step.0 = sym (names_of-normal (move_at moves k).old step.0 place normal leads) in
             inl (b, subst (λ place. Any (IsAt b place) entries) here at)
         by (of_page k inside normal) =
@@ -72,34 +116,8 @@ module _ {entries : List Entry} {pages changed : List (List Step)} {moves : List
             inl (false, subst (λ place. Any (IsAt false place) entries) here file.file)
         by (of_text old text (j, less, is_2)) = inr (j, (old, step.0, text), less, is_2, refl)
 
-    -- a rename to a staging name, as places
-    leaving_at : (i : ℕ) (step : List ℕ × List ℕ) (d : List (List ℕ) × List (List ℕ)) → i < length actions.staged
-        → get_or actions.staged i step ≡ step → get_or (leaving actions) i d ≡ rename_places step
-    leaving_at i step d within is = get_or-map rename_places actions.staged i step d within ∙ ap rename_places is
-
-    -- the rename from a path is the first that takes along what is there
-    pub FirstUnder-leaves : (k i : ℕ) (step : List ℕ × List ℕ) → i < k → k ≤ length actions.staged
-        → get_or actions.staged i step ≡ step → FirstUnder (take k (leaving actions)) (names_of step.0)
-    FirstUnder-leaves k i step less fits is =
-        let within : i < length actions.staged = omega (arith, less, fits) in
-        let long : length (take k (leaving actions)) ≡ k = length-take-le k (leaving actions) (rw length-map fits) in
-        record {
-          number = i;
-          step = rename_places step;
-          below = [];
-          within = omega (arith, less, long);
-          here = get_or-take k (leaving actions) i (rename_places step) less ∙ leaving_at i step (rename_places step) within is;
-          under = sym (append-nil (names_of step.0));
-          before = λ j d below.
-              let less_2 : j < k = omega (arith, less, below) in
-              subst (λ (other : List (List ℕ) × List (List ℕ)). ¬ IsUnder (names_of step.0) other.0)
-              (sym (get_or-take k (leaving actions) j d less_2))
-              (subst (λ (other : List (List ℕ) × List (List ℕ)). ¬ IsUnder other.0 (get_or (leaving actions) j d).0)
-              (leaving_at i step d within is) (carrying.order run j i d below (rw length-map within)));
-        }
-
-    -- none of the first renames leads from the path or from above it
-    pub elsewhere-leaves : (i : ℕ) (step : List ℕ × List ℕ) → i < length actions.staged → get_or actions.staged i step ≡ step
+    -- no rename before that from a path leads from there or from above
+    elsewhere-leaves : (i : ℕ) (step : List ℕ × List ℕ) → i < length actions.staged → get_or actions.staged i step ≡ step
         → All (λ other. ¬ IsUnder (names_of step.0) other.0) (take i (leaving actions))
     elsewhere-leaves i step within is j d inside =
         let long : length (take i (leaving actions)) ≡ i =
@@ -108,7 +126,8 @@ module _ {entries : List Entry} {pages changed : List (List Step)} {moves : List
         subst (λ (other : List (List ℕ) × List (List ℕ)). ¬ IsUnder (names_of step.0) other.0)
         (sym (get_or-take i (leaving actions) j d less))
         (subst (λ (other : List (List ℕ) × List (List ℕ)). ¬ IsUnder other.0 (get_or (leaving actions) j d).0)
-        (leaving_at i step d within is) (carrying.order run j i d less (rw length-map within)))
+        (get_or-map_element rename_places actions.staged i step d within is)
+        (carrying.order run j i d less (rw length-map within)))
 
     -- what the first rename takes along comes to a staging name
     pub carried-leaving : (k : ℕ) (place : List (List ℕ)) → k ≤ length actions.staged
@@ -122,36 +141,36 @@ module _ {entries : List Entry} {pages changed : List (List Step)} {moves : List
         let less : i < k = omega (arith, inside, long) in
         let within : i < length actions.staged = omega (arith, less, fits) in
         let (step, is) = element actions.staged i within in
-        let here : get_or (take k (leaving actions)) i first.step ≡ rename_places step =
-        get_or-take k (leaving actions) i first.step less ∙ leaving_at i step first.step within is in
-        let one : first.step ≡ rename_places step = sym first.here ∙ here in (
+        let here : first.step ≡ rename_places step =
+        sym first.here ∙ get_or-take k (leaving actions) i first.step less
+        ∙ get_or-map_element rename_places actions.staged i step first.step within is in (
           step,
           less,
           is,
-          carried-by (take k (leaving actions)) i first.step place first.below first.within
-              (first.under ∙ ap (λ (other : List (List ℕ) × List (List ℕ)). other.0 ++ first.below) (sym first.here))
+          carried-by (take k (leaving actions)) i first.step place first.below first.within first.here first.under
               (λ j l. first.before j first.step l)
-              (λ j l m.
-              subst (λ (other : List (List ℕ) × List (List ℕ)). ¬ IsUnder (other.1 ++ first.below)
-              (get_or (take k (leaving actions)) j first.step).0) (sym here)
+              (subst (λ (one : List (List ℕ) × List (List ℕ)). All (λ (other : List (List ℕ) × List (List ℕ)).
+              ¬ IsUnder (one.1 ++ first.below) other.0) (take k (leaving actions))) (sym here)
               (All-take (λ (other : List (List ℕ) × List (List ℕ)). ¬ IsUnder (names_of step.1 ++ first.below) other.0) k
-              (leaving actions) (carrying.clear run i step first.below within is) j first.step m))
+              (leaving actions) (carrying.clear run i step first.below within is)))
               ∙ ap (λ (other : List (List ℕ) × List (List ℕ)). other.1 ++ first.below) here
               ∙ ap (λ top. top ++ first.below) (carrying.left_place run i step within is),
         )
 
-    -- what leaves comes to its staging name
-    pub carried-left : (i : ℕ) (step : List ℕ × List ℕ) → i < length actions.staged → get_or actions.staged i step ≡ step
-        → carried (leaving actions) (names_of step.0) ≡ step.1 ∷ []
-    unfolding FirstUnder-leaves
-    carried-left i step within is =
-        let first = FirstUnder-leaves (length actions.staged) i step within (omega arith) is in
-        let (one, less, is_one, comes) = carried-leaving (length actions.staged) (names_of step.0) (omega arith) first in
-        let step_is : one ≡ step = sym is_one ∙ get_or_default actions.staged i one step within ∙ is in
-        let all : take (length actions.staged) (leaving actions) ≡ leaving actions =
-        take_all (length actions.staged) (leaving actions) (rw length-map (omega arith)) in
-        ap (λ renames. carried renames (names_of step.0)) (sym all) ∙ comes
-        ∙ ap (λ (step : List ℕ × List ℕ). step.1 ∷ []) step_is
+    -- what comes to a staging name before its rename was there before the run
+    pub carried-early : (i : ℕ) (step : List ℕ × List ℕ) → i < length actions.staged → get_or actions.staged i step ≡ step
+        → (place : List (List ℕ)) → carried (take i (leaving actions)) place ≡ step.1 ∷ [] → place ≡ step.1 ∷ []
+    carried-early i step within is place comes = by (first_under (take i (leaving actions)) place)
+      where
+        by : All (λ other. ¬ IsUnder place other.0) (take i (leaving actions)) ⊎ FirstUnder (take i (leaving actions)) place
+            → place ≡ step.1 ∷ []
+        by (inl none) = sym (carried-elsewhere (take i (leaving actions)) place none) ∙ comes
+        by (inr first) =
+            let (other, less, is_2, comes_2) = carried-leaving i place (omega (arith, within)) first in
+            let within_2 : first.number < length actions.staged = omega (arith, less, within) in
+            let same : other.1 ≡ step.1 = ap (λ place. get_or place 0 other.1) (sym comes_2 ∙ comes) in
+            absurd (run.names.different first.number i [] less (rw length-map within)
+            (carrying.left_at run first.number other [] within_2 is_2 ∙ same ∙ sym (carrying.left_at run i step [] within is)))
 
     -- nothing is at a staging name before the run
     no_thing : (i : ℕ) (step : List ℕ × List ℕ) (place : List (List ℕ)) → i < length actions.staged
@@ -182,44 +201,29 @@ module _ {entries : List Entry} {pages changed : List (List Step)} {moves : List
     -- nothing is where the rename leads to
     pub IsFree-leaves : (i : ℕ) (step : List ℕ × List ℕ) → i < length actions.staged → get_or actions.staged i step ≡ step
         → ¬ IsThereAfter entries actions i (names_of step.1)
-    IsFree-leaves i step within is there = by (first_under (take i (leaving actions)) there.start)
-      where
-        fits : i ≤ length actions.staged
-        fits = omega (arith, within)
-
-        now : carried (take i (leaving actions)) there.start ≡ step.1 ∷ []
-        now = ap (λ renames. carried renames there.start) (sym (renames-leaving actions i fits)) ∙ there.now
-            ∙ carrying.left_place run i step within is
-
-        by : All (λ other. ¬ IsUnder there.start other.0) (take i (leaving actions))
-            ⊎ FirstUnder (take i (leaving actions)) there.start → ⊥
-        by (inl none) =
-            no_thing i step there.start within is there.thing
-            (sym (carried-elsewhere (take i (leaving actions)) there.start none) ∙ now)
-        by (inr first) =
-            let (other, less, is_2, comes) = carried-leaving i there.start fits first in
-            let within_2 : first.number < length actions.staged = omega (arith, less, within) in
-            let same : other.1 ≡ step.1 = ap (λ place. get_or place 0 other.1) (sym comes ∙ now) in
-            run.names.different first.number i [] less (rw length-map within)
-            (carrying.left_at run first.number other [] within_2 is_2 ∙ same ∙ sym (carrying.left_at run i step [] within is))
+    IsFree-leaves i step within is there =
+        no_thing i step there.start within is there.thing
+        (carried-early i step within is there.start
+        (ap (λ renames. carried renames there.start) (sym (renames-leaving actions i (omega (arith, within)))) ∙ there.now
+        ∙ carrying.left_place run i step within is))
 
     -- ---- the renames from staging names
 
-    -- what comes from a staging name left to there
+    -- what comes from a staging name, or is removed there, left to there
+    pub left_to : (staging : List ℕ) → Contains (carrying.come run) staging
+        → (i : ℕ) × (other : List ℕ × List ℕ) × (i < length actions.staged) × (get_or actions.staged i other ≡ other)
+        × (other.1 ≡ staging)
+    left_to staging has =
+        let (i, inside, here) = carrying.come_left run staging has in
+        let inside_2 : i < length actions.staged = rw length-map at inside in
+        let (other, is) = element actions.staged i inside_2 in
+        (i, other, inside_2, is, sym (carrying.left_at run i other staging inside_2 is) ∙ here)
+
     pub left_before : (k : ℕ) (step : List ℕ × List ℕ) → k < length actions.placed → get_or actions.placed k step ≡ step
         → (i : ℕ) × (other : List ℕ × List ℕ) × (i < length actions.staged) × (get_or actions.staged i other ≡ other)
         × (other.1 ≡ step.0)
     left_before k step within is =
-        let come = placed_names actions ++ actions.removed in
-        let all : All (Contains (staged_names actions)) come =
-        All-permutation (Contains (staged_names actions)) (staged_names actions) come run.nothing_lost
-        (λ i d l. (i, l, get_or_default (staged_names actions) i (get_or (staged_names actions) i d) d l)) in
-        let (i, inside, here) = subst (Contains (staged_names actions))
-        (carrying.come_at run k step [] within is)
-        (all k [] (carrying.inside run k within)) in
-        let inside_2 : i < length actions.staged = rw length-map at inside in
-        let (other, is_2) = element actions.staged i inside_2 in
-        (i, other, inside_2, is_2, sym (carrying.left_at run i other step.0 inside_2 is_2) ∙ here)
+        left_to step.0 (k, carrying.inside run k within, carrying.come_at run k step step.0 within is)
 
     -- before that rename, what left to there is still there
     pub carried-before : (k i : ℕ) (step other : List ℕ × List ℕ) → k < length actions.placed
@@ -227,10 +231,8 @@ module _ {entries : List Entry} {pages changed : List (List Step)} {moves : List
         → other.1 ≡ step.0 → carried (take (length actions.staged + k) (renames_of actions)) (names_of other.0) ≡ names_of step.0
     carried-before k i step other within is within_2 is_2 same =
         let here : carried (leaving actions) (names_of other.0) ≡ step.0 ∷ [] =
-        carried-left i other within_2 is_2 ∙ ap (λ top. top ∷ []) same in
-        ap (λ renames. carried renames (names_of other.0)) (renames-coming actions k)
-        ∙ carried-append (leaving actions) (take k (coming actions)) (names_of other.0)
-        ∙ ap (carried (take k (coming actions))) here
+        carrying.carried-left run other.0 other.1 (i, within_2, is_2) ∙ ap (λ top. top ∷ []) same in
+        carried-coming actions k (names_of other.0) ∙ ap (carried (take k (coming actions))) here
         ∙ carried-elsewhere (take k (coming actions)) (step.0 ∷ [])
         (λ j d inside under.
         let long : length (take k (coming actions)) ≡ k =
@@ -239,8 +241,7 @@ module _ {entries : List Entry} {pages changed : List (List Step)} {moves : List
         let within_3 : j < length actions.placed = omega (arith, less_2, within) in
         let (third, is_3) = element actions.placed j within_3 in
         let there : get_or (take k (coming actions)) j d ≡ rename_places third =
-        get_or-take k (coming actions) j d less_2 ∙ get_or-map rename_places actions.placed j third d within_3
-        ∙ ap rename_places is_3 in
+        get_or-take k (coming actions) j d less_2 ∙ get_or-map_element rename_places actions.placed j third d within_3 is_3 in
         carrying.name_other run j k third step (λ equal. absurd (omega (arith, equal, less_2))) within_3 within is_3 is
         (sym (IsUnder-first step.0 third.0 [] []
         (subst (IsUnder (step.0 ∷ [])) (ap (λ (step : List (List ℕ) × List (List ℕ)). step.0) there

@@ -2,7 +2,7 @@
 use Rattle.std.proofs.Common.{AllPairs, ◌≡◌, ◌≢◌, ℕ, suc, ◌+◌, List, [], ◌∷◌, ◌++◌, Contains, length, map, get_or, refl, sym, ap, subst, ◌∙◌, arith}
 use Rattle.std.proofs.lemmas.List.{get_or-append-add, length-append}
 use Rattle.std.proofs.lemmas.Simd.{map-map}
-use Rattle.relative_path.specs.Steps.{Step}
+use Rattle.relative_path.specs.Steps.{Step, components}
 use Rattle.relative_path_moves.specs.Moves.{Move}
 use Rattle.relmove_checks.specs.declared.entry.Entry.{Entry}
 use Rattle.relmove_checks.specs.declared.name_rule.NameRule.{NameRule}
@@ -10,9 +10,9 @@ use Rattle.relmove_plan.proofs.CarriedLemmas as carrying
 use Rattle.relmove_plan.proofs.KnownRunsLemmas.{IsKnownRun}
 use Rattle.relmove_trees.proofs.LeadToLemmas.{LeadTo-append}
 use Rattle.relmove_plan.proofs.MovedTreesLemmas as trees
-use Rattle.relmove_plan.proofs.MovedTreesLemmas.{HasNewTexts, IsAmong-map}
+use Rattle.relmove_plan.proofs.MovedTreesLemmas.{IsAmong-map, IsRunOn}
 use Rattle.relmove_plan.proofs.NewTextsLemmas as texts
-use Rattle.relmove_plan.proofs.NewTextsLemmas.{IsTreeOf, text_at}
+use Rattle.relmove_plan.proofs.NewTextsLemmas.{text_at}
 use Rattle.relmove_plan.proofs.TreeAddsLemmas.{CanAddAll, after_adds}
 use Rattle.relmove_plan.proofs.TreeRemovesLemmas.{AreDifferent, AreDirectories, DeepestFirst, IsAmong, LeadTo-clears, LeadTo-removes}
 use Rattle.relmove_plan.proofs.TreeRenamesLemmas.{CanRenameAll, after_renames}
@@ -21,7 +21,7 @@ use Rattle.relmove_plan.proofs.TreeStagesLemmas.{made_at}
 use Rattle.relmove_trees.specs.FileTrees.{Tree, names_of}
 use Rattle.relmove_plan.specs.KnownTrees.{tree_actions}
 use Rattle.relmove_plan.specs.MovedTrees.{IsCleared, IsMoved}
-use Rattle.relmove_plan.proofs.RunWords.{CanBeMade, CanCome, MakesDirectories, NothingInTheWay, rename_places}
+use Rattle.relmove_plan.proofs.RunWords.{rename_places}
 use Rattle.relmove_trees.specs.TreeActions.{Action, Clear, LeadTo, Make, Remove, Rename, Write}
 use Rattle.relmove_steps.specs.Actions.{ActionTexts, placed_names}
 
@@ -72,18 +72,16 @@ different (first ∷ names) single differ = (
 )
 
 module _ {entries : List Entry} {pages changed : List (List Step)} {moves : List Move} {rule : NameRule} {actions : ActionTexts}
-    (run : IsKnownRun entries pages changed moves rule actions) (made : List (List ℕ)) (clear : NothingInTheWay entries actions)
-    (can_make : CanBeMade entries actions made) (can_come : CanCome entries actions made)
-    (makes : MakesDirectories moves entries actions made)
-    (start now : Tree) (of : IsTreeOf entries moves changed actions made start) (now_is : HasNewTexts changed actions start now)
+    (run : IsKnownRun entries pages changed moves rule actions) (made : List (List ℕ)) (start now : Tree)
+    (on : IsRunOn entries moves changed (map components run.accepted.apart.after) actions made start now)
   where
     removed_differ : AreDifferent (map names_of actions.removed)
     removed_differ =
         different actions.removed
         (λ r gone.
         let (from, left, c, inside, normal) =
-        trees.removed_page run made clear can_make can_come makes start now of now_is r gone in
-        trees.name_at run made clear can_make can_come makes start now of now_is from r left)
+        trees.removed_page run made start now on r gone in
+        trees.name_at run made start now on from r left)
         (λ i j d less within same.
         let long = length-append (placed_names actions) actions.removed in
         (carrying.free_come run).different (length (placed_names actions) + i) (length (placed_names actions) + j) d (omega (arith, less))
@@ -92,7 +90,7 @@ module _ {entries : List Entry} {pages changed : List (List Step)} {moves : List
         ∙ sym (get_or-append-add (placed_names actions) actions.removed j d)))
 
     abbrev pub moved : Tree
-    moved = trees.moved run made clear can_make can_come makes start now of now_is
+    moved = trees.moved run made start now on
 
     -- whoever does the actions of the plan can do each, and comes to the tree after the moves
     pub leads : (emptied : List (List ℕ)) → DeepestFirst (map names_of emptied) → AreDirectories (map names_of emptied) moved
@@ -105,31 +103,31 @@ module _ {entries : List Entry} {pages changed : List (List Step)} {moves : List
         (LeadTo-append (writes ++ leave) make (LeadTo come (LeadTo remove (LeadTo clears P))) start
         (LeadTo-append writes leave (LeadTo make (LeadTo come (LeadTo remove (LeadTo clears P)))) start
         (lead_writes actions.texts (LeadTo leave (LeadTo make (LeadTo come (LeadTo remove (LeadTo clears P))))) start
-        (texts.can_write-all run made start of)
+        (texts.can_write-all run made start on.of)
         (lead_renames actions.staged (LeadTo make (LeadTo come (LeadTo remove (LeadTo clears P)))) written
-        (stages.can_leave run made clear can_make can_come written has)
-        (lead_makes made (LeadTo come (LeadTo remove (LeadTo clears P))) (stages.after_staging run made clear can_make can_come written has)
-        (stages.can_make-all run made clear can_make can_come written has)
-        (lead_renames actions.placed (LeadTo remove (LeadTo clears P)) (stages.after_making run made clear can_make can_come written has)
-        (stages.can_come-all run made clear can_make can_come written has)
+        (stages.can_leave run made on.can written has)
+        (lead_makes made (LeadTo come (LeadTo remove (LeadTo clears P))) (stages.after_staging run made on.can written has)
+        (stages.can_make-all run made on.can written has)
+        (lead_renames actions.placed (LeadTo remove (LeadTo clears P)) (stages.after_making run made on.can written has)
+        (stages.can_come-all run made on.can written has)
         (subst (λ actions. LeadTo actions (LeadTo clears P) after_placing) (map-map Remove names_of actions.removed)
         (LeadTo-removes (map names_of actions.removed) (LeadTo clears P) after_placing removed_differ
-        (trees.gone_files run made clear can_make can_come makes start now of now_is)
+        (trees.gone_files run made start now on)
         (subst (λ actions. LeadTo actions P moved) (map-map Clear names_of emptied)
         (LeadTo-clears (map names_of emptied) P moved deep are
-        (λ end cleared. (moved, trees.is_moved run made clear can_make can_come makes start now of now_is, cleared))))))))))))))
+        (λ end cleared. (moved, trees.is_moved run made start now on, cleared))))))))))))))
       where
         P : Tree → Type 0
         P end = (moved : Tree) × IsMoved moves now moved × IsCleared (IsAmong (map names_of emptied)) moved end
 
         written : Tree
-        written = texts.written run made start of
+        written = texts.written run made start on.of
 
         has : stages.HasThings entries actions made written
-        has = texts.has_things run made start of
+        has = texts.has_things run made start on.of
 
         after_placing : Tree
-        after_placing = stages.after_placing run made clear can_make can_come written has
+        after_placing = stages.after_placing run made on.can written has
 
         writes : List Action
         writes = map (λ new. Write (names_of new.1) new.2) actions.texts

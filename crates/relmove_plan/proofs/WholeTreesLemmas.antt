@@ -1,5 +1,5 @@
 -- Whole trees: what is above an entry is a directory of the tree.
-use Rattle.std.proofs.Common.{Bool, true, false, true≢false, ◌≡◌, ◌≢◌, ◌⊎◌, ℕ, zero, suc, ◌<◌, ◌≤◌, List, [], ◌∷◌, ◌++◌, Option, Some, length, map, drop, unwrap_or, get_or, inl, inr, refl, sym, ap, subst, ◌∙◌, append_assoc, append-nil, arith}
+use Rattle.std.proofs.Common.{Bool, true, false, true≢false, ◌≡◌, ◌≢◌, ◌⊎◌, ℕ, zero, suc, ◌<◌, ◌≤◌, List, [], ◌∷◌, ◌++◌, Option, Some, length, map, unwrap_or, get_or, inl, inr, refl, sym, ap, subst, ◌∙◌, append_assoc, append-nil, arith}
 use Rattle.std.specs.List.{Any}
 use Rattle.std.proofs.lemmas.Bool.{cases_order}
 use Rattle.std.proofs.lemmas.List.{get_or-map, get_or_default, length-append, length-map}
@@ -15,14 +15,6 @@ use Rattle.relmove_trees.proofs.FileTreesLemmas.{last_view, push_front}
 
 -- ---- lists of names from their end
 
-pub push_last : {X : Type 0} (xs ys : List X) (x y : X) → xs ++ x ∷ [] ≡ ys ++ y ∷ [] → x ≡ y
-push_last [] [] x y same = ap (λ zs. get_or zs 0 x) same
-push_last [] (z ∷ ys) x y same =
-    absurd (let count = ap length same in let long = length-append ys (y ∷ []) in omega (arith, count, long))
-push_last (z ∷ xs) [] x y same =
-    absurd (let count = ap length same in let long = length-append xs (x ∷ []) in omega (arith, count, long))
-push_last (z ∷ xs) (w ∷ ys) x y same = push_last xs ys x y (ap (λ zs. drop 1 zs) same)
-
 pub not_empty : {X : Type 0} (xs : List X) (y : X) (ys : List X) → xs ++ y ∷ ys ≢ []
 not_empty xs y ys none =
     absurd (let count = ap length none in let long = length-append xs (y ∷ ys) in omega (arith, count, long))
@@ -31,10 +23,22 @@ pub some_append : {X : Type 0} (xs ys : List X) → xs ≢ [] → xs ++ ys ≢ [
 some_append [] ys some = absurd (some refl)
 some_append (x ∷ xs) ys some = not_empty [] x (xs ++ ys)
 
+pub front_none : {X : Type 0} (xs ys : List X) → [] ≡ xs ++ ys → xs ≡ []
+front_none [] ys none = refl
+front_none (x ∷ xs) ys none = cc none
+
 -- what is mapped to an empty list is empty
 pub map_none : {X Y : Type 0} (f : X → Y) (xs : List X) → map f xs ≡ [] → xs ≡ []
 map_none f [] none = refl
 map_none f (x ∷ xs) none = cc none
+
+-- if P holds of no two numbers, those of which it holds are one
+pub one_number : (P : ℕ → Type 0) → ((i j : ℕ) → i < j → P i → P j → ⊥) → (i j : ℕ) → P i → P j → i ≡ j
+one_number P differ i j one other = elim (cases_order i j) [
+  | inl same ↦ same
+  | inr (inl less) ↦ absurd (differ i j less one other)
+  | inr (inr more) ↦ absurd (differ j i more other one)
+]
 
 -- ---- entries at places
 
@@ -67,22 +71,21 @@ module _ (entries : List Entry) (pages : List (List Step)) (whole : IsWhole entr
 
   -- the entries at one place are one entry
   pub IsAt-one : (b c : Bool) (place : List (List ℕ)) → Any (IsAt b place) entries → Any (IsAt c place) entries → b ≡ c
-  IsAt-one b c place (k, entry, within, is, at) (l, other, within_2, is_2, at_2) = elim (cases_order k l) [
-    | inl same ↦
-        let one : entry ≡ other = sym is ∙ ap (λ j. get_or entries j entry) same
-        ∙ get_or_default entries l entry other within_2 ∙ is_2 in
-        sym at.kind ∙ ap (λ (entry : Entry). is_directory entry.kind) one ∙ at_2.kind
-    | inr (inl less) ↦ absurd (apart k l entry other less within within_2 is is_2 at.leads at_2.leads)
-    | inr (inr more) ↦ absurd (apart l k other entry more within_2 within is_2 is at_2.leads at.leads)
-  ]
+  IsAt-one b c place (k, entry, within, is, at) (l, other, within_2, is_2, at_2) =
+      sym at.kind ∙ ap (λ (entry : Entry). is_directory entry.kind) same ∙ at_2.kind
     where
-      apart : (k l : ℕ) (entry other : Entry) → k < l → k < length entries → l < length entries
-          → get_or entries k entry ≡ entry → get_or entries l other ≡ other
-          → place_of (components entry.path) ≡ Some place → place_of (components other.path) ≡ Some place → ⊥
-      apart k l entry other less within within_2 is is_2 leads leads_2 =
+      one : k ≡ l
+      one =
+          one_number (λ k. (entry : Entry) × (k < length entries) × (get_or entries k entry ≡ entry)
+          × (place_of (components entry.path) ≡ Some place))
+          (λ k l less (entry, within, is, leads) (other, within_2, is_2, leads_2).
           (whole.distinct l (rw (length-map entries (λ (entry : Entry). components entry.path)) within_2)).first k less
           (rw (path_at-entry entries l other within_2 is_2, path_at-entry entries k entry within is)
-          (IsSame-one_place place leads_2 leads))
+          (IsSame-one_place place leads_2 leads)))
+          k l (entry, within, is, at.leads) (other, within_2, is_2, at_2.leads)
+
+      same : entry ≡ other
+      same = sym is ∙ ap (λ j. get_or entries j entry) one ∙ get_or_default entries l entry other within_2 ∙ is_2
 
   -- an entry isn't at the root
   pub IsAt-some : (b : Bool) (place : List (List ℕ)) → Any (IsAt b place) entries → place ≢ []
