@@ -4,6 +4,7 @@ use Rattle.std.proofs.lemmas.List.{get_or_default, length-map}
 use Rattle.std.specs.List.{Any, join_with_byte}
 use Rattle.relative_path.proofs.ForCallers.{walk-names}
 use Rattle.relative_path.specs.Steps.{Step, components, name, slash}
+use Rattle.relative_path.specs.Naming.{file_name_of}
 use Rattle.relative_path.specs.Walk.{place_of}
 use Rattle.relative_path_moves.specs.Moves.{Move}
 use Rattle.relative_path_places.specs.PlaceIndex.{IsNoneAt, path_at}
@@ -142,9 +143,10 @@ module _ {entries : List Entry} {pages changed : List (List Step)} {moves : List
               let here : names_of new.1 ≡ names_of other.1 =
               same ∙ ap (λ (new : Place × Node). new.0) (get_or-map_element text_at actions.texts j other d within_2 other_is) in
               run.own.different j k new less within
+              (ap file_name_of
               (ap (λ (new : List ℕ × List ℕ × List ℕ). new.1) (get_or_default actions.texts j new other within_2 ∙ other_is)
               ∙ (file_at other (j, within_2, other_is)).spelled ∙ ap (join_with_byte slash) (sym here)
-              ∙ sym (file_at new (k, within, is)).spelled ∙ ap (λ (new : List ℕ × List ℕ × List ℕ). new.1) (sym is))
+              ∙ sym (file_at new (k, within, is)).spelled ∙ ap (λ (new : List ℕ × List ℕ × List ℕ). new.1) (sym is)))
 
       write_ready : AreAddReady start files
       write_ready = each-map text_at actions.texts (λ k new. IsAddReady start files k new.0) write_ready-at

@@ -3,6 +3,7 @@ use Rattle.std.proofs.Common.{All, Bool, false, ◌≡◌, ◌≢◌, ℕ, zero,
 use Rattle.std.specs.List.{Any, join_with_byte}
 use Rattle.std.proofs.lemmas.List.{get_or-map, get_or_default, length-map, map-append}
 use Rattle.relative_path.specs.Steps.{Step, name, components, slash}
+use Rattle.relative_path.specs.Naming.{file_name_of}
 use Rattle.relative_path.specs.Walk.{IsSame, place_of}
 use Rattle.relative_path.specs.Normalizing.{IsNormalTextOf}
 use Rattle.relative_path.proofs.ForCallers.{components-place, kept-name, walk-names}
@@ -141,7 +142,8 @@ module _ (entries : List Entry) (pages : List (List Step)) (whole : IsWhole entr
           (IsAt-some entries pages whole false top.place top.file) (IsFrom.from_page k within top refl)
       IsSource-leaves from (of_text old text (j, less, is)) =
           by (own.of_pages j (old, from, text) less) (own.next_to j (old, from, text) less)
-          (own.unused j (old, from, text) less) (own.no_name j (old, from, text) less)
+          (own.unused j (old, from, text) less)
+          (λ i d l same. own.no_name j (old, from, text) less i d l (ap file_name_of same))
         where
           new : List ℕ × List ℕ × List ℕ
           new = get_or actions.texts j (old, from, text)

@@ -4,6 +4,7 @@ use Rattle.std.specs.List.{Any, join_with_byte}
 use Rattle.std.proofs.lemmas.List.{get_or-take, length-map, length-take-le, map-append, take-append-le, get_or-append-add, get_or_append_left, length-append}
 use Rattle.std.proofs.lemmas.List.Elements.{All-take}
 use Rattle.relative_path.specs.Steps.{Step, name, slash}
+use Rattle.relative_path.specs.Naming.{file_name_of}
 use Rattle.relative_path.proofs.ForCallers.{walk-names}
 use Rattle.relative_path_moves.specs.Moves.{Move, move_at}
 use Rattle.relative_path_places.specs.PlaceIndex.{path_at}
@@ -181,10 +182,11 @@ module _ {entries : List Entry} {pages changed : List (List Step)} {moves : List
         (walk-names [] (step.1 ∷ [])) (not_empty [] step.1 []) at ([], same ∙ sym (append-nil (step.1 ∷ [])))
     no_thing i step place within is (inr (t, new, inside, is_2, here)) same =
         run.own.no_name t new inside i [] (rw length-map within)
+        (ap file_name_of
         (ap (λ (new : List ℕ × List ℕ × List ℕ). new.1) is_2
         ∙ subst (λ (new : List ℕ × List ℕ × List ℕ). new.1 ≡ join_with_byte slash (names_of new.1)) is_2
         (run.own.next_to t new inside).spelled
-        ∙ ap (join_with_byte slash) (here ∙ same) ∙ sym (carrying.left_at run i step [] within is))
+        ∙ ap (join_with_byte slash) (here ∙ same) ∙ sym (carrying.left_at run i step [] within is)))
 
     -- ---- the renames to staging names
 

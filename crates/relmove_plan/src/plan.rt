@@ -69,7 +69,7 @@ pub fn make_plan<'a, F: Finder>(
     // staging names are `.relmove-` and a number, all different, and no entry is at one
     ensures names { IfOk result (λ plan. AreFreeNames (entry_paths tree.entry.entries.now)
         (staged_names (action_texts plan.actions))) }
-    // each new text has its own file, in the page's directory, where no entry is
+    // each new text has its own file and number, in the page's directory, where no entry is
     ensures files { IfOk result (λ plan. HaveOwnFiles (entry_paths tree.entry.entries.now)
         (changed_paths tree.entry.pages.now plan.pages.items) (action_texts plan.actions)) }
     // new texts are of exactly the changed pages, in order

@@ -11,7 +11,7 @@ use Rattle.std.proofs.lemmas.List.{take_more}
 use Rattle.std.proofs.lemmas.Slice.Zip.{all_zipped_more}
 use Rattle.std.proofs.lemmas.Option.{same_Some}
 use Rattle.relative_path.specs.Editing.{kept_len, pushed}
-use Rattle.relative_path.specs.Naming.{last_name}
+use Rattle.relative_path.specs.Naming.{file_name_of, last_name}
 use Rattle.relative_path.specs.Normalizing.{IsNormal, IsNormalText, IsNormalTextOf}
 use Rattle.relative_path.specs.Steps.{Step, cur, up, name, is_slash, is_not_empty, step_text, classed, components, spell, SpellsItself, SpellThemselves}
 use Rattle.relative_path.specs.Walk.{IsSame}
@@ -132,18 +132,23 @@ components-next_to page file number normal is =
     (All-take SpellsItself k cs (All-from_recursion SpellsItself cs (SpellThemselves-components page)))
     (IsNormal-append_left (take k cs) (drop k cs) (subst IsNormal (sym (take-append-drop k cs)) normal.normal)) is
 
--- ---- texts with another number are other texts
+-- ---- texts with another number have another name
 
+pub EndsUpTo-other_name : (one other : List ℕ) (last number : ℕ) → EndsUpTo last one → last < number
+    → (above : List Step) → components other ≡ above ++ name (numbered_name number) ∷ []
+    → file_name_of one ≢ file_name_of other
+EndsUpTo-other_name one other last number is late above ends same =
+    let within = is.within in
+    let names : Some (numbered_name is.number) ≡ Some (numbered_name number) =
+    sym (ap last_name is.ends ∙ last_name-name is.above (numbered_name is.number)) ∙ same
+    ∙ ap last_name ends ∙ last_name-name above (numbered_name number) in
+    numbered_name-other is.number number (omega (arith, within, late)) (same_Some _ _ names)
+
+-- so they are other texts
 pub EndsUpTo-other : (one other : List ℕ) (last number : ℕ) → EndsUpTo last one → last < number
     → (above : List Step) → components other ≡ above ++ name (numbered_name number) ∷ [] → one ≢ other
 EndsUpTo-other one other last number is late above ends same =
-    let within = is.within in
-    let all : is.above ++ name (numbered_name is.number) ∷ [] ≡ above ++ name (numbered_name number) ∷ [] =
-    sym is.ends ∙ ap components same ∙ ends in
-    let names : Some (numbered_name is.number) ≡ Some (numbered_name number) =
-    sym (last_name-name is.above (numbered_name is.number)) ∙ ap last_name all
-    ∙ last_name-name above (numbered_name number) in
-    numbered_name-other is.number number (omega (arith, within, late)) (same_Some _ _ names)
+    EndsUpTo-other_name one other last number is late above ends (ap file_name_of same)
 
 EndsUpTo-later : (before after : ℕ) (text : List ℕ) → before ≤ after → EndsUpTo before text → EndsUpTo after text
 EndsUpTo-later before after text later is =
@@ -160,6 +165,14 @@ EndsUpTo-IsNumbered last text is = record {
 
 -- ---- drawing new files
 
+-- the new files have different names
+abbrev HaveOtherNames : List ℕ × List ℕ × List ℕ → List ℕ × List ℕ × List ℕ → Type 0
+HaveOtherNames one other = file_name_of one.1 ≢ file_name_of other.1
+
+-- the new file has none of these names
+abbrev HasNoneOf : List (List ℕ) → List ℕ × List ℕ × List ℕ → Type 0
+HasNoneOf names new = All (λ staging. file_name_of new.1 ≢ file_name_of staging) names
+
 pub AreFilesDrawn-none : (index : PlaceIndex) (pages : List (List Step)) (free : FreeNames) (actions : ActionTexts)
     → actions.texts ≡ [] → AreFilesDrawn index pages free actions
 AreFilesDrawn-none index pages free actions none = record {
@@ -168,9 +181,9 @@ AreFilesDrawn-none index pages free actions none = record {
     of_pages = none_of (λ new. IsOneOf pages new.0);
     next_to = none_of (λ new. IsNextTo new.0 new.1);
     unused = none_of (λ new. IsNoneAt entries (components new.1));
-    different = subst (AllPairs (λ (one other : List ℕ × List ℕ × List ℕ). one.1 ≢ other.1)) (sym none)
+    different = subst (AllPairs HaveOtherNames) (sym none)
         (λ i j d l within. absurd (let w : j < 0 = within in omega (arith, w)));
-    no_name = none_of (λ new. All (λ staging. new.1 ≢ staging) (staged_names actions));
+    no_name = none_of (HasNoneOf (staged_names actions));
   };
 }
   where
@@ -208,14 +221,12 @@ AreFilesDrawn-file index pages before after actions page file text next normal o
             unused = All-push (λ (new : List ℕ × List ℕ × List ℕ). IsNoneAt entries (components new.1)) actions.texts new
                 so_far.unused
                 (next.unused entries (subst (Indexes entries) (sym drawn.entries) has));
-            different = all_pairs_push (λ (one other : List ℕ × List ℕ × List ℕ). one.1 ≢ other.1) actions.texts new
-                so_far.different
-                (λ k d l. EndsUpTo-other (get_or actions.texts k d).1 file before.last next.number (files.numbered k d l)
+            different = all_pairs_push HaveOtherNames actions.texts new so_far.different
+                (λ k d l. EndsUpTo-other_name (get_or actions.texts k d).1 file before.last next.number (files.numbered k d l)
                 next.late (directory (components page)) ends);
-            no_name = All-push (λ (new : List ℕ × List ℕ × List ℕ). All (λ staging. new.1 ≢ staging) (staged_names actions))
-                actions.texts new so_far.no_name
-                (All-weaker (IsNumbered before.last) (λ staging. file ≢ staging)
-                (λ staging is same. EndsUpTo-other staging file before.last next.number
+            no_name = All-push (HasNoneOf (staged_names actions)) actions.texts new so_far.no_name
+                (All-weaker (IsNumbered before.last) (λ staging. file_name_of file ≢ file_name_of staging)
+                (λ staging is same. EndsUpTo-other_name staging file before.last next.number
                 (EndsUpTo-IsNumbered before.last staging is) next.late (directory (components page)) ends
                 (sym same)) (staged_names actions) drawn.numbered);
           };
@@ -242,14 +253,13 @@ AreFilesDrawn-name index pages before after actions more staging next texts left
             of_pages = same_texts (λ new. IsOneOf pages new.0) so_far.of_pages;
             next_to = same_texts (λ new. IsNextTo new.0 new.1) so_far.next_to;
             unused = same_texts (λ new. IsNoneAt entries (components new.1)) so_far.unused;
-            different = subst (AllPairs (λ (one other : List ℕ × List ℕ × List ℕ). one.1 ≢ other.1)) (sym texts)
-                so_far.different;
-            no_name = same_texts (λ new. All (λ staging. new.1 ≢ staging) (staged_names more))
-                (λ k d l. subst (All (λ staging. (get_or actions.texts k d).1 ≢ staging)) (sym left)
-                (All-push (λ staging. (get_or actions.texts k d).1 ≢ staging) (staged_names actions) staging
-                (so_far.no_name k d l)
-                (EndsUpTo-other (get_or actions.texts k d).1 staging before.last next.number (files.numbered k d l) next.late
-                [] ends)));
+            different = subst (AllPairs HaveOtherNames) (sym texts) so_far.different;
+            no_name = same_texts (HasNoneOf (staged_names more))
+                (λ k d l. subst (λ names. HasNoneOf names (get_or actions.texts k d)) (sym left)
+                (All-push (λ staging. file_name_of (get_or actions.texts k d).1 ≢ file_name_of staging) (staged_names actions)
+                staging (so_far.no_name k d l)
+                (EndsUpTo-other_name (get_or actions.texts k d).1 staging before.last next.number (files.numbered k d l)
+                next.late [] ends)));
           };
     }
   where
@@ -264,12 +274,12 @@ HaveOwnFiles-reordered entries pages actions more moved texts own = record {
   of_pages = same_texts (λ new. IsOneOf pages new.0) own.of_pages;
   next_to = same_texts (λ new. IsNextTo new.0 new.1) own.next_to;
   unused = same_texts (λ new. IsNoneAt entries (components new.1)) own.unused;
-  different = subst (AllPairs (λ (one other : List ℕ × List ℕ × List ℕ). one.1 ≢ other.1)) (sym texts) own.different;
-  no_name = same_texts (λ new. All (λ staging. new.1 ≢ staging) (staged_names more))
-      (All-weaker (λ (new : List ℕ × List ℕ × List ℕ). All (λ staging. new.1 ≢ staging) (staged_names actions))
-      (λ (new : List ℕ × List ℕ × List ℕ). All (λ staging. new.1 ≢ staging) (staged_names more))
-      (λ new all. All-permutation (λ staging. new.1 ≢ staging) (staged_names actions) (staged_names more)
-      (IsPermutation-map (λ (step : List ℕ × List ℕ). step.1) actions.staged more.staged moved) all) actions.texts own.no_name);
+  different = subst (AllPairs HaveOtherNames) (sym texts) own.different;
+  no_name = same_texts (HasNoneOf (staged_names more))
+      (All-weaker (HasNoneOf (staged_names actions)) (HasNoneOf (staged_names more))
+      (λ new. All-permutation (λ staging. file_name_of new.1 ≢ file_name_of staging) (staged_names actions)
+      (staged_names more) (IsPermutation-map (λ (step : List ℕ × List ℕ). step.1) actions.staged more.staged moved))
+      actions.texts own.no_name);
 }
   where
     same_texts : (P : List ℕ × List ℕ × List ℕ → Type 0) → All P actions.texts → All P more.texts

@@ -1,6 +1,7 @@
 -- The new files to which a run writes new texts, and what leaves its path once.
 use Rattle.std.specs.Prelude.{◌≡◌, ◌≢◌, ◌⊎◌, ◌<◌, ◌≤◌, ℕ, List, [], ◌∷◌, ◌++◌, All, AllPairs, Contains, length}
 use Rattle.relative_path.specs.Steps.{Step, name, components, spell}
+use Rattle.relative_path.specs.Naming.{file_name_of}
 use Rattle.relative_path.specs.Normalizing.{IsNormalTextOf}
 use Rattle.relative_path_moves.specs.Moves.{Move, AreApart}
 use Rattle.relative_path_places.specs.Places.{directory}
@@ -22,14 +23,14 @@ pub record IsNextTo (page file : List ℕ) : Type 0 where
   pub next : components file ≡ directory (components page) ++ name (numbered_name number) ∷ []
   pub spelled : file ≡ spell (components file)
 
--- each new text is of one of these pages and has a file of its own, next to the page: no entry is at the file, and the
--- file is no staging name
+-- each new text is of one of these pages and has a file of its own, next to the page: no entry is at the file, and no other
+-- new file and no staging name has the file's name, and so its number
 pub record HaveOwnFiles (entries pages : List (List Step)) (actions : ActionTexts) : Type 0 where
   pub of_pages : All (λ new. IsOneOf pages new.0) actions.texts
   pub next_to : All (λ new. IsNextTo new.0 new.1) actions.texts
   pub unused : All (λ new. IsNoneAt entries (components new.1)) actions.texts
-  pub different : AllPairs (λ one other. one.1 ≢ other.1) actions.texts
-  pub no_name : All (λ new. All (λ staging. new.1 ≢ staging) (staged_names actions)) actions.texts
+  pub different : AllPairs (λ one other. file_name_of one.1 ≢ file_name_of other.1) actions.texts
+  pub no_name : All (λ new. All (λ staging. file_name_of new.1 ≢ file_name_of staging) (staged_names actions)) actions.texts
 
 -- nothing leaves the same path twice
 abbrev pub LeaveOnce : ActionTexts → Type 0

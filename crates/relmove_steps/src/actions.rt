@@ -87,7 +87,7 @@ pub fn actions_of(
     ensures once { IfOk result (λ actions. (paths : List (List Step)) → Indexes paths now.entry.index.now
         → LeaveFromEntries paths now.entry.table.now (changed_paths pages.now now.entry.pages.now)
         → LeaveOnce (action_texts actions)) }
-    // each new text has its own file, in the page's directory, where no entry is
+    // each new text has its own file and number, in the page's directory, where no entry is
     ensures files { IfOk result (λ actions. (paths : List (List Step)) → Indexes paths now.entry.index.now
         → HaveOwnFiles paths (changed_paths pages.now now.entry.pages.now) (action_texts actions)) }
     // each directory missing above new paths, where staging names put it
