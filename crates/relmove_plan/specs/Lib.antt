@@ -2,3 +2,4 @@ pub mod WholeTrees
 pub mod MovedTrees
 pub mod KnownTrees
 pub mod ActionPaths
+pub mod Symlinks

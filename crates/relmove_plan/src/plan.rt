@@ -11,6 +11,7 @@ ghost use Rattle.relmove_steps.specs.Pages.{changed_paths, page_paths};
 ghost use Rattle.relmove_steps.specs.StagingNames.{AreFreeNames};
 ghost use Rattle.relmove_plan.specs.ActionPaths.{AreSpelled, DoNoMore};
 ghost use Rattle.relmove_plan.specs.KnownTrees.{RunsOn};
+ghost use Rattle.relmove_plan.specs.Symlinks.{AreNotices};
 ghost use Rattle.relmove_plan.specs.WholeTrees.{IsWhole};
 
 use crate::symlinks::{SymlinkNotice, symlink_notices};
@@ -80,6 +81,8 @@ pub fn make_plan<'a, F: Finder>(
         (DoesMove (changed_paths tree.entry.pages.now plan.pages.items) (action_texts plan.actions)) (moves_of moves.now)) }
     // a changed page's new text comes by its new file to the page's new path
     ensures replaced { IfOk result (λ plan. ReplacesPages tree.entry.pages.now plan.pages.items (action_texts plan.actions)) }
+    // notices are of exactly the symbolic links that move, or lead to what moves, in order
+    ensures symlinks { IfOk result (λ plan. AreNotices (moves_of moves.now) tree.entry.entries.now plan.symlinks.items) }
     // if entries are whole, on each tree that agrees with them the actions can be done, and end in the tree after the moves
     ensures run { IfOk result (λ plan. IsWhole tree.entry.entries.now (page_paths tree.entry.pages.now)
         → RunsOn tree.entry.entries.now tree.entry.pages.now plan.pages.items (moves_of moves.now)

@@ -29,6 +29,9 @@ actions_of-requires-clause-news_apart g c =
     rw c.in_ok-table.ensures.table
     ((rw c.in_ok-table.ensures.table at c.in_ok-after.ensures.fine) c.args.rule c.in_ok-table.ensures.fine).apart.come.apart
 
+pub symlink_notices-requires : goal.symlink_notices-requires
+symlink_notices-requires g c = rw c.in_ok-table.ensures.table c.in_ok-table.ensures.fine.apart
+
 pub returns-clause-links : goal.returns-clause-links
 returns-clause-links g c = rw c.in_ok-table.ensures.table at c.in_ok-pages.ensures.links
 
@@ -61,6 +64,9 @@ returns-clause-moved g c = rw (c.deref.ensures.value, c.in_ok-table.ensures.tabl
 
 pub returns-clause-replaced : goal.returns-clause-replaced
 returns-clause-replaced g c = rw c.deref.ensures.value at c.in_ok-actions.ensures.replaced
+
+pub returns-clause-symlinks : goal.returns-clause-symlinks
+returns-clause-symlinks g c = rw c.in_ok-table.ensures.table at c.in_ok-symlinks.ensures
 
 -- entries are where something leaves
 from_entries : (g : _) (c : goal.After-drop-index-2 g) → IsWhole c.args.tree.entries.now (page_paths c.args.tree.pages.now)
