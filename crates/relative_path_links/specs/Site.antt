@@ -23,8 +23,8 @@ use Rattle.relative_path_links.specs.declared.target.Target.{Target}
 use Rattle.relative_path_links.specs.declared.site.MovedSitePage.{MovedSitePage}
 use Rattle.relative_path_links.specs.declared.site.SitePage.{SitePage}
 
--- the page's edits are those of the rewriter, which gives up no new target, but for new targets with which the page would read
--- otherwise; the page changes to the text, which reads as the edits say
+-- the page's edits are those of the rewriter, but for new targets that are given up, and none is unless the page would read
+-- otherwise with all of them; the page changes to the text, which reads as the edits say
 pub record IsRewritten (finds : List ℕ → List Target → Type 0) (m : Moving) (page : List ℕ) (edits : List Edit)
     (text : Option (String Global)) : Type 0 where
   pub found : finds page (targets_of edits)

@@ -52,7 +52,10 @@ directory_of entries place (e, entry, within, is, at) = (e, entry, within, is, r
 -- what isn't read is in the root or in a directory of the tree
 held_by : (entries : List Entry) (moves : List Move) (top : Place) (n : List ℕ) → IsUnread entries moves top n
     → (top ≡ []) ⊎ HasDirectoryAt entries top
-held_by entries moves top n unread = elim unread.hidden [ inl at ↦ inr (directory_of entries top at) | inr (held, out_of_the_way) ↦ held ]
+held_by entries moves top n unread = elim unread.hidden [
+  | inl at ↦ inr (directory_of entries top at)
+  | inr (held, out_of_the_way) ↦ held
+]
 
 module _ {entries : List Entry} {pages changed : List (List Step)} {moves : List Move} {rule : NameRule} {actions : ActionTexts}
     (run : IsKnownRun entries pages changed moves rule actions) (made : List (List ℕ))

@@ -77,7 +77,7 @@ pub fn actions_of(
     // nothing leaves but from old paths, changed pages and the files of new texts
     ensures only { IfOk result (λ actions. OnlyTheseLeave now.entry.table.now
         (changed_paths pages.now now.entry.pages.now) (action_texts actions)) }
-    // staging names are `.relmove-` and a number, all different, and no entry has one
+    // staging names are `.relmove-` and a number, all different, and no entry is at one
     ensures names { IfOk result (λ actions. (paths : List (List Step)) → Indexes paths now.entry.index.now
         → AreFreeNames paths (staged_names (action_texts actions))) }
     // new texts are of exactly the changed pages, in order
