@@ -1,10 +1,11 @@
 //! Finds the targets in a page.
 //!
-//! `blocks` finds the text of paragraphs, headings and blocks of HTML in a page, and `inlines` the
-//! targets in that. A module uses those to the right of it in its row, and those of the rows below.
+//! `blocks` finds the text of paragraphs, headings and blocks of HTML in a page, `inlines` the
+//! targets in that, and `headings` the parts of headings. A module uses those to the right of it
+//! in its row, and those of the rows below.
 //!
 //! ```text
-//! pages        blocks, inlines
+//! pages        blocks, headings - inlines
 //! lines        blocks - containers, starts - fence, html_block - cursor
 //! text         inlines - brackets, code_spans, autolinks
 //! definitions  definitions - names, links
@@ -21,6 +22,7 @@ mod containers;
 mod cursor;
 mod definitions;
 mod fence;
+mod headings;
 mod html;
 mod html_block;
 mod inlines;
@@ -31,7 +33,9 @@ mod tags;
 mod text_blocks;
 
 use crate::finder::blocks::read_blocks;
+use crate::finder::headings::read_headings;
 use crate::finder::inlines::read_inlines;
+use crate::heading::Headings;
 use crate::target::LinkTargets;
 use std::alloc::{AllocError, Global};
 
@@ -39,4 +43,10 @@ use std::alloc::{AllocError, Global};
 pub(crate) fn find(alloc: Global, page: &str) -> Result<LinkTargets, AllocError> {
     let text = read_blocks(alloc, page)?;
     read_inlines(alloc, &text)
+}
+
+// Returns the parts of the headings of a page, and the names of its elements of HTML.
+pub(crate) fn find_headings(alloc: Global, page: &str) -> Result<Headings, AllocError> {
+    let text = read_blocks(alloc, page)?;
+    read_headings(alloc, &text)
 }

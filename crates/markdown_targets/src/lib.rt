@@ -8,10 +8,12 @@ ghost use Rattle.std.specs.Prelude.{map, IfOk};
 ghost use Rattle.std.specs.List.{All};
 ghost use Rattle.markdown_targets.specs.Spans.{IsSpanOf, AreInOrder};
 
+pub use self::heading::{HeadingPart, HeadingPartKind, Headings};
 pub use self::span::PageSpan;
 pub use self::target::{LinkTarget, LinkTargets, PassedOver, Quote, TargetKind, WhyPassedOver};
 
 mod finder;
+mod heading;
 mod span;
 mod target;
 
@@ -61,6 +63,35 @@ pub fn link_targets(alloc: Global, page: &str) -> Result<LinkTargets, AllocError
     found.passed_over.retain(|passed| passed.span.is_of(page));
     let targets = targets_in_order(alloc, page, &found.targets)?;
     Ok(LinkTargets { targets, ..found })
+}
+
+/// Returns the parts of the headings of a page in Markdown, and the names of the elements in its HTML.
+///
+/// Headings are those of `#` and those with an underline, also in block quotes and list items, and those of HTML in a
+/// block of HTML, such as `<h1>`, up to their closing tag or the end of the block. Parts and names are spans of the page. Nothing
+/// in them is decoded, and which marks are those of emphasis isn't said. Tests of `markdown_anchors` show that the parts are
+/// those of the headings that the text of CommonMark 0.31.2 has; no clause does. The page is read as by
+/// [`link_targets`], and the call takes as much time and memory, and memory for a list of the parts and one of the names.
+///
+/// ```
+/// let page = "# a `b` [c](d.md)\n\n<a name='e'></a>\n";
+/// let found = heading_parts(alloc, page)?;
+/// let spans = found.parts.iter().map(|part| part.span);
+/// let texts = spans.map(|span| &page[span.start..span.end]).collect::<Vec<_>>(alloc)?;
+/// let wanted = ["a `b` [c](d.md)", "a ", "b", " [c", "[c"];
+/// assert_eq!(rt; texts.as_slice(), wanted.as_slice());
+/// assert_eq!(rt; found.names.as_slice(), [PageSpan { start: 28, end: 29 }].as_slice());
+/// ```
+pub fn heading_parts(alloc: Global, page: &str) -> Result<Headings, AllocError>
+    // spans of whole characters of the page
+    ensures parts { IfOk result (λ found. All (λ part. IsSpanOf page.now part.span) found.parts.items) }
+    // spans of whole characters of the page
+    ensures names { IfOk result (λ found. All (λ span. IsSpanOf page.now span) found.names.items) }
+{
+    let mut found = finder::find_headings(alloc, page)?;
+    found.parts.retain(|part| part.span.is_of(page));
+    found.names.retain(|span| span.is_of(page));
+    Ok(found)
 }
 
 // Returns the targets that are spans of the page, without those that begin before the last one ends. None does, which

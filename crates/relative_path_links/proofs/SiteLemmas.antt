@@ -1,18 +1,15 @@
 -- Links read again after the moves, and the same page by other lists for the same directories.
-use Rattle.std.proofs.Common.{◌≡◌, ◌⊎◌, ℕ, ◌<◌, ◌+◌, ◌&&◌, not, true, false, List, [], ◌∷◌, ◌++◌, length, get_or, drop, codes, Option, None, Some, String, IsNone, inl, inr, refl, sym, ap, ◌∙◌, subst, append-nil, append_assoc, string_bytes, true≢false}
+use Rattle.std.proofs.Common.{◌≡◌, ◌⊎◌, ℕ, ◌<◌, ◌+◌, true, false, List, [], ◌∷◌, ◌++◌, length, get_or, drop, Option, None, Some, String, IsNone, inl, inr, refl, sym, ap, ◌∙◌, subst, append-nil, append_assoc, string_bytes, true≢false}
 use Rattle.std.proofs.Math.Seq.{drop-append_seam}
-use Rattle.std.proofs.lemmas.Bool.{cond-false, cond_both}
 use Rattle.std.proofs.lemmas.List.{drop_more}
 use Rattle.std.proofs.lemmas.List.Elements.{All-from_recursion, recursion_from_All}
 use Rattle.std.specs.List.{AllByRecursion, AllZip}
 use Rattle.std.specs.declared.alloc.Global.{Global}
-use Rattle.relative_path.specs.Steps.{Step, cur, slash, components, spell}
+use Rattle.relative_path.specs.Steps.{Step, components}
 use Rattle.relative_path.specs.Walk.{IsSame, place_of}
-use Rattle.relative_path.specs.Unix.{has_root}
 use Rattle.relative_path.specs.Normalizing.{IsNormalTextOf}
 use Rattle.relative_path.specs.Relating.{Leads}
-use Rattle.relative_path.proofs.ForCallers.{IsSame-refl, IsSame-sym, IsSame-trans, IsSame-append_left, IsSame-append_right, IsReachable-same, IsShortestText-same, Leads-same, SpellThemselves-components, has_root-spell, components-trailing_slash, components-pushed}
-use Rattle.relative_path.proofs.OnLiterals.{relative_path_on_literals}
+use Rattle.relative_path.proofs.ForCallers.{IsSame-refl, IsSame-sym, IsSame-trans, IsSame-append_left, IsSame-append_right, IsReachable-same, IsShortestText-same, Leads-same}
 use Rattle.relative_path_places.specs.Places.{directory}
 use Rattle.relative_path_places.proofs.ForCallers.{IsNormalTextOf-same}
 use Rattle.relative_path_moves.specs.declared.tree_moves.PageMove.{PageMove}
@@ -21,22 +18,24 @@ use Rattle.relative_path_moves.specs.TreeMoves.{IsLeftInPlace, AtTreePath}
 use Rattle.relative_path_moves.proofs.ForCallers.{AtTreePath-same}
 use Rattle.target_paths.specs.declared.target.TargetSyntax.{TargetSyntax}
 use Rattle.target_paths.specs.declared.target.WhyUnknown.{WhyUnknown}
-use Rattle.target_paths.specs.Reading.{Meaning, not_relative, path_before, unknown, meaning}
-use Rattle.target_paths.specs.Writing.{path_written, target_of}
+use Rattle.target_paths.specs.Reading.{Meaning, not_relative, path_before, unknown}
+use Rattle.target_paths.specs.Writing.{path_written}
 use Rattle.relative_path_links.specs.declared.edit.Change.{Change}
 use Rattle.relative_path_links.specs.declared.edit.Change.TheVariants.{Kept, New, Left}
 use Rattle.relative_path_links.specs.declared.edit.Edit.{Edit}
 use Rattle.relative_path_links.specs.declared.edit.Unchanged.{Unchanged}
-use Rattle.relative_path_links.specs.declared.edit.Unchanged.TheVariants.{AboveRoot, NoPath, Nul, Unknown, WouldReadOtherwise}
+use Rattle.relative_path_links.specs.declared.edit.Unchanged.TheVariants.{AboveRoot, NoPath, OutsideSiteRoot, Nul, Unknown, WouldReadOtherwise}
 use Rattle.relative_path_links.specs.declared.target.Target.{Target}
 use Rattle.relative_path_links.specs.declared.site.MovedSitePage.{MovedSitePage}
 use Rattle.relative_path_links.specs.declared.site.SitePage.{SitePage}
 use Rattle.relative_path_links.specs.Targets.{target_text}
 use Rattle.relative_path_links.specs.Edits.{targets_of, change_text, edit_text, with_edits, is_new, IsSettled}
 use Rattle.relative_path_links.specs.Reading.{HasText}
-use Rattle.relative_path_links.specs.Rewriter.{Moving, moving, AtFile, StillLeads, AtLostFile, begins_with_dot, begins_with_up, with_slash, written_like, IsNewPath, IsMovedTarget, LeavesPath, ChangesPath, unknown_change, ChangesBy, HasFileBy, Becomes}
-use Rattle.relative_path_links.specs.Site.{ForMovedPage, LeadsOn, KeepsLinkBy, KeepsLink, StaysInPlace, StayInPlace, IsRewritten, KeepsLinks, moved_to, AreRewritten, KeepTheirLinks}
+use Rattle.relative_path_links.specs.SiteRoot.{Moving, PageMoving, page_moving, meaning_at, target_at, root_for, moving_by, moving_for}
+use Rattle.relative_path_links.specs.Rewriter.{AtFile, StillLeads, AtLostFile, IsNewPath, IsMovedTarget, LeavesPath, ChangesPath, unknown_change, ChangesBy, HasFileBy, BecomesBy, Becomes}
+use Rattle.relative_path_links.specs.Site.{ForMovedPage, LeadsOn, KeepsLinkBy, KeepsLinkOf, StaysInPlace, StayInPlace, IsRewritten, KeepsLinks, moved_to, AreRewritten, KeepTheirLinks}
 use Rattle.relative_path_links.proofs.EditsLemmas.{with_edits-same}
+use Rattle.relative_path_links.proofs.WrittenLemmas.{IsSame-written}
 
 -- ---- where a file is, by another list for the same place
 
@@ -44,10 +43,11 @@ place_of-same : (f g : List Step) → IsSame f g → place_of g ≡ place_of f
 place_of-same f g same = sym (same.everywhere [])
 
 -- the directories lead to the same places
-pub record HaveSame (m n : Moving) : Type 0 where
-  pub moves : m.moves ≡ n.moves
-  pub before : IsSame m.before n.before
-  pub after : IsSame m.after n.after
+record HaveSame (m n : Moving) : Type 0 where
+  moves : m.moves ≡ n.moves
+  before : IsSame m.before n.before
+  after : IsSame m.after n.after
+  is_rooted : m.is_rooted ≡ n.is_rooted
 
 module _ (m n : Moving) (same : HaveSame m n) where
   AtFile-same : (path : List ℕ) (P Q : List Step → Type 0) → ((t u : List Step) → IsSame t u → P t → Q u)
@@ -88,8 +88,15 @@ module _ (m n : Moving) (same : HaveSame m n) where
 
   IsMovedTarget-same : (syntax : TargetSyntax) (path tail text : List ℕ) → IsMovedTarget m syntax path tail text
       → IsMovedTarget n syntax path tail text
-  IsMovedTarget-same syntax path tail text is =
-      record { new = is.new; is_new = IsNewPath-same path is.new is.is_new; whole = is.whole; read = is.read }
+  IsMovedTarget-same syntax path tail text is = record {
+    new = is.new;
+    is_new = IsNewPath-same path is.new is.is_new;
+    whole = subst (λ rooted. text ≡ target_at rooted is.new ++ tail) same.is_rooted is.whole;
+    read =
+        subst
+        (λ rooted. meaning_at rooted syntax text ≡ path_before (path_written is.new) (length (target_at rooted is.new)))
+        same.is_rooted is.read;
+  }
 
   LeavesPath-same : (syntax : TargetSyntax) (path tail : List ℕ) (why : Unchanged) → LeavesPath m syntax path tail why
       → LeavesPath n syntax path tail why
@@ -97,6 +104,12 @@ module _ (m n : Moving) (same : HaveSame m n) where
       AtLostFile-same path _ _ (λ t u to above. place_of-same t u to ∙ above) is
   LeavesPath-same syntax path tail NoPath is = AtLostFile-same path _ _
       (BelowTop-same _ _ (λ t u to none reachable. none (IsReachable-same (IsSame-sym same.after) (IsSame-sym to) reachable))) is
+  LeavesPath-same syntax path tail OutsideSiteRoot (rooted, way, shortest, climbs) = (
+    sym same.is_rooted ∙ rooted,
+    way,
+    AtLostFile-same path _ _ (BelowTop-same _ _ (λ t u to is. IsShortestText-same same.after to is)) shortest,
+    climbs,
+  )
   LeavesPath-same syntax path tail Nul (new, is, nul) = (new, IsNewPath-same path new is, nul)
   LeavesPath-same syntax path tail (Unknown why) is = absurd is
   LeavesPath-same syntax path tail WouldReadOtherwise (text, is) = (text, IsMovedTarget-same syntax path tail text is)
@@ -122,16 +135,39 @@ module _ (m n : Moving) (same : HaveSame m n) where
       IsNormalTextOf-same (n.before ++ components path) text is.normal_text
       (IsSame-trans (IsSame-append_right (components path) (IsSame-sym same.before)) is.same)
 
-  Becomes-same : (page : List ℕ) (edit : Edit) → Becomes m page edit → Becomes n page edit
-  Becomes-same page edit is =
-      let means = meaning edit.target.syntax (target_text page edit.target) in (
-        ChangesBy-same edit.target.syntax (target_text page edit.target) edit.change means is.0,
-        HasFileBy-same edit.file means is.1,
+  BecomesBy-same : (page : List ℕ) (edit : Edit) → BecomesBy m page edit → BecomesBy n page edit
+  BecomesBy-same page edit is =
+      let target = target_text page edit.target in
+      let means = meaning_at m.is_rooted edit.target.syntax target in
+      let as_n = ap (λ rooted. meaning_at rooted edit.target.syntax target) same.is_rooted in (
+        subst (ChangesBy n edit.target.syntax target edit.change) as_n
+            (ChangesBy-same edit.target.syntax target edit.change means is.0),
+        subst (HasFileBy n edit.file) as_n (HasFileBy-same edit.file means is.1),
       )
+
+-- the directories of a page lead to the same places, and the site has one root
+pub record HaveSamePage (p q : PageMoving) : Type 0 where
+  pub moves : p.moves ≡ q.moves
+  pub before : IsSame p.before q.before
+  pub after : IsSame p.after q.after
+  pub root : p.root ≡ q.root
+
+module _ (p q : PageMoving) (same : HaveSamePage p q) where
+  HaveSame-by : (root : Option (List Step)) → HaveSame (moving_by p root) (moving_by q root)
+  HaveSame-by None = record { moves = same.moves; before = same.before; after = same.after; is_rooted = refl }
+  HaveSame-by (Some root) =
+      record { moves = same.moves; before = IsSame-refl root; after = IsSame-refl root; is_rooted = refl }
+
+  Becomes-same : (page : List ℕ) (edit : Edit) → Becomes p page edit → Becomes q page edit
+  Becomes-same page edit is =
+      let target = target_text page edit.target in
+      let here = root_for p.root target in
+      subst (λ root. BecomesBy (moving_by q (root_for root target)) page edit) same.root
+      (BecomesBy-same (moving_by p here) (moving_by q here) (HaveSame-by here) page edit is)
 
   -- a page is rewritten alike for both
   pub IsRewritten-same : (finds : List ℕ → List Target → Type 0) (page : List ℕ) (edits : List Edit)
-      (text : Option (String Global)) → IsRewritten finds m page edits text → IsRewritten finds n page edits text
+      (text : Option (String Global)) → IsRewritten finds p page edits text → IsRewritten finds q page edits text
   IsRewritten-same finds page edits text is = record {
     found = is.found;
     in_order = is.in_order;
@@ -143,45 +179,10 @@ module _ (m n : Moving) (same : HaveSame m n) where
     text_is = is.text_is;
   }
 
--- ---- what is written leads where the way leads
-
--- a path without a slash at its start is written so that it leads where it leads itself, with a slash at its end too
-IsSame-with_slash : (path new : List ℕ) → has_root new ≡ false
-    → IsSame (components new) (components (path_written (with_slash path new)))
-unfolding relative_path_on_literals
-IsSame-with_slash path [] no_slash =
-    cond_both _ (slash ∷ []) [] (λ new. IsSame (components []) (components (path_written new)))
-    (λ _. record { everywhere = λ base. refl }) (λ _. record { everywhere = λ base. refl })
-IsSame-with_slash path (b ∷ bs) no_slash =
-    cond_both _ ((b ∷ bs) ++ slash ∷ []) (b ∷ bs) (λ new. IsSame (components (b ∷ bs)) (components (path_written new)))
-    (λ _. rw (whole (bs ++ slash ∷ []), components-trailing_slash (b ∷ bs)) (IsSame-refl (components (b ∷ bs))))
-    (λ _. rw (whole bs) (IsSame-refl (components (b ∷ bs)))) where
-      whole : (rest : List ℕ) → path_written (b ∷ rest) ≡ b ∷ rest
-      whole rest = rw no_slash refl
-
--- `./` before a path without a slash at its start is one component more, which leads nowhere else
-components-dot : (way : List ℕ) → has_root way ≡ false → components (codes "./" ++ way) ≡ cur ∷ components way
-unfolding relative_path_on_literals
-components-dot [] no_slash = refl
-components-dot (b ∷ bs) no_slash =
-    ap (λ rest. components (codes "./" ++ rest)) (sym (cond-false _ _ _ no_slash)) ∙ components-pushed (codes ".") (b ∷ bs)
-
--- a way is written so that it leads where it leads itself, with the `./` and the slash of the path too
-IsSame-written : (path way : List ℕ) → way ≡ spell (components way)
-    → IsSame (components way) (components (path_written (written_like path way)))
-IsSame-written path way spelled =
-    cond_both (begins_with_dot path && not (begins_with_up way)) (codes "./" ++ way) way
-    (λ new. IsSame (components way) (components (path_written (with_slash path new))))
-    (λ _. IsSame-trans (rw (components-dot way no_slash) (record { everywhere = λ base. refl }))
-    (IsSame-with_slash path (codes "./" ++ way) refl))
-    (λ _. IsSame-with_slash path way no_slash) where
-      no_slash : has_root way ≡ false
-      no_slash = ap has_root spelled ∙ has_root-spell (components way) (SpellThemselves-components way)
-
 -- ---- links, read again
 
 module _ (m : Moving) (syntax : TargetSyntax) (target path : List ℕ) (tail_at : ℕ)
-    (means : meaning syntax target ≡ path_before path tail_at)
+    (means : meaning_at m.is_rooted syntax target ≡ path_before path tail_at)
   where
     LeadsOn-kept : (text : List ℕ) → StillLeads m path → text ≡ target → LeadsOn m syntax target path tail_at text
     LeadsOn-kept text still stays =
@@ -193,7 +194,7 @@ module _ (m : Moving) (syntax : TargetSyntax) (target path : List ℕ) (tail_at 
         let (file, there, (lost, (below, shortest))) = is.is_new.shortest in
         record {
           new = path_written is.new;
-          new_tail_at = length (target_of is.new);
+          new_tail_at = length (target_at m.is_rooted is.new);
           read = is.read;
           leads = (
             file,
@@ -201,7 +202,9 @@ module _ (m : Moving) (syntax : TargetSyntax) (target path : List ℕ) (tail_at 
             IsSame-trans (IsSame-append_left m.after (IsSame-sym (rw is.is_new.text (IsSame-written path is.is_new.way shortest.spelled))))
                 shortest.shortest.leads,
           );
-          tail = ap (drop (length (target_of is.new))) is.whole ∙ drop-append_seam (target_of is.new) (drop tail_at target);
+          tail =
+              ap (drop (length (target_at m.is_rooted is.new))) is.whole
+              ∙ drop-append_seam (target_at m.is_rooted is.new) (drop tail_at target);
         }
 
 -- ---- edits whose new texts are given up
@@ -221,32 +224,37 @@ ChangesBy-given_up m syntax target Kept (path_before path tail_at) new is = absu
 ChangesBy-given_up m syntax target (New text) (path_before path tail_at) new is = (string_bytes text, is)
 ChangesBy-given_up m syntax target (Left why) (path_before path tail_at) new is = absurd (true≢false (sym new))
 
-Becomes-settled : (m : Moving) (page : List ℕ) (before after : Edit) → Becomes m page before → IsSettled before after
-    → Becomes m page after
-Becomes-settled m page before after is (inl same) = subst (Becomes m page) (sym same) is
-Becomes-settled m page before after is (inr (new, given_up)) =
-    subst (Becomes m page) (sym given_up) (
-      ChangesBy-given_up m before.target.syntax (target_text page before.target) before.change
-          (meaning before.target.syntax (target_text page before.target)) new is.0,
-      is.1,
-    )
+BecomesBy-given_up : (m : Moving) (page : List ℕ) (edit : Edit) → BecomesBy m page edit → is_new edit.change ≡ true
+    → BecomesBy m page (record { target = edit.target; change = Left WouldReadOtherwise; file = edit.file })
+BecomesBy-given_up m page edit is new = (
+  ChangesBy-given_up m edit.target.syntax (target_text page edit.target) edit.change
+      (meaning_at m.is_rooted edit.target.syntax (target_text page edit.target)) new is.0,
+  is.1,
+)
 
-become-settled : (m : Moving) (page : List ℕ) (written edits : List Edit) → AllByRecursion (Becomes m page) written
-    → AllZip IsSettled written edits → AllByRecursion (Becomes m page) edits
-become-settled m page [] [] all settled = tt
-become-settled m page [] (edit ∷ edits) all settled = absurd settled
-become-settled m page (before ∷ written) [] all settled = absurd settled
-become-settled m page (before ∷ written) (after ∷ edits) (is, all) (settled, rest) =
-    (Becomes-settled m page before after is settled, become-settled m page written edits all rest)
+Becomes-settled : (p : PageMoving) (page : List ℕ) (before after : Edit) → Becomes p page before → IsSettled before after
+    → Becomes p page after
+Becomes-settled p page before after is (inl same) = subst (Becomes p page) (sym same) is
+Becomes-settled p page before after is (inr (new, given_up)) =
+    subst (Becomes p page) (sym given_up)
+    (BecomesBy-given_up (moving_for p (target_text page before.target)) page before is new)
+
+become-settled : (p : PageMoving) (page : List ℕ) (written edits : List Edit) → AllByRecursion (Becomes p page) written
+    → AllZip IsSettled written edits → AllByRecursion (Becomes p page) edits
+become-settled p page [] [] all settled = tt
+become-settled p page [] (edit ∷ edits) all settled = absurd settled
+become-settled p page (before ∷ written) [] all settled = absurd settled
+become-settled p page (before ∷ written) (after ∷ edits) (is, all) (settled, rest) =
+    (Becomes-settled p page before after is settled, become-settled p page written edits all rest)
 
 -- ---- links are kept
 
-KeepsLink-becomes : (m : Moving) (page : List ℕ) (edit : Edit) → Becomes m page edit → KeepsLink m page edit
-KeepsLink-becomes m page edit is = (of (meaning edit.target.syntax target) refl edit.change is.0, is.1) where
+KeepsLinkOf-becomes : (m : Moving) (page : List ℕ) (edit : Edit) → BecomesBy m page edit → KeepsLinkOf m page edit
+KeepsLinkOf-becomes m page edit is = (of (meaning_at m.is_rooted edit.target.syntax target) refl edit.change is.0, is.1) where
   target : List ℕ
   target = target_text page edit.target
 
-  of : (means : Meaning) → meaning edit.target.syntax target ≡ means → (change : Change)
+  of : (means : Meaning) → meaning_at m.is_rooted edit.target.syntax target ≡ means → (change : Change)
       → ChangesBy m edit.target.syntax target change means → KeepsLinkBy m edit.target.syntax target change means
   of not_relative e change is = is
   of (unknown why) e change is = report m.moves is where
@@ -285,29 +293,40 @@ change_text-in_place m page target (New text) (path_before path tail_at) stays l
     absurd (not_lost m path _ stays left is.is_new.shortest)
 change_text-in_place m page target (Left why) (path_before path tail_at) stays left is = refl
 
-all-in_place : (m : Moving) (page : List ℕ) (edits : List Edit) → IsSame m.before m.after
-    → StayInPlace m page (targets_of edits) → AllByRecursion (Becomes m page) edits
+-- where a target leads from stays where the page's directory stays
+IsSame-by : (p : PageMoving) (root : Option (List Step)) → IsSame p.before p.after
+    → IsSame (moving_by p root).before (moving_by p root).after
+IsSame-by p None stays = stays
+IsSame-by p (Some root) stays = IsSame-refl root
+
+all-in_place : (p : PageMoving) (page : List ℕ) (edits : List Edit) → IsSame p.before p.after
+    → StayInPlace p page (targets_of edits) → AllByRecursion (Becomes p page) edits
     → AllByRecursion (λ edit. edit_text page edit ≡ target_text page edit.target) edits
-all-in_place m page [] stays left become = tt
-all-in_place m page (edit ∷ edits) stays (here, left) (is, become) = (
-  change_text-in_place m page edit.target edit.change
-      (meaning edit.target.syntax (target_text page edit.target)) stays here is.0,
-  all-in_place m page edits stays left become,
-)
+all-in_place p page [] stays left become = tt
+all-in_place p page (edit ∷ edits) stays (here, left) (is, become) =
+    let target = target_text page edit.target in
+    let m = moving_for p target in (
+      change_text-in_place m page edit.target edit.change (meaning_at m.is_rooted edit.target.syntax target)
+          (IsSame-by p (root_for p.root target) stays) here is.0,
+      all-in_place p page edits stays left become,
+    )
 
 -- a rewritten page keeps its links
-pub KeepsLinks-rewritten : (finds : List ℕ → List Target → Type 0) (m : Moving) (page : List ℕ) (edits : List Edit)
-    (text : Option (String Global)) → IsRewritten finds m page edits text → KeepsLinks finds m page edits text
-KeepsLinks-rewritten finds m page edits text is = record {
+pub KeepsLinks-rewritten : (finds : List ℕ → List Target → Type 0) (p : PageMoving) (page : List ℕ) (edits : List Edit)
+    (text : Option (String Global)) → IsRewritten finds p page edits text → KeepsLinks finds p page edits text
+KeepsLinks-rewritten finds p page edits text is = record {
   found = is.found;
   in_order = is.in_order;
-  links = λ k d within. KeepsLink-becomes m page (get_or edits k d) (All-from_recursion (Becomes m page) edits become k d within);
+  links = λ k d within.
+      let edit = get_or edits k d in
+      KeepsLinkOf-becomes (moving_for p (target_text page edit.target)) page edit
+      (All-from_recursion (Becomes p page) edits become k d within);
   text_is = is.text_is;
   same = λ nothing. none text is.text_is
-      (with_edits-same page 0 edits is.in_order (all-in_place m page edits nothing.directory nothing.files become));
+      (with_edits-same page 0 edits is.in_order (all-in_place p page edits nothing.directory nothing.files become));
 } where
-  become : AllByRecursion (Becomes m page) edits
-  become = become-settled m page is.written edits (recursion_from_All (Becomes m page) is.written is.become) is.settled
+  become : AllByRecursion (Becomes p page) edits
+  become = become-settled p page is.written edits (recursion_from_All (Becomes p page) is.written is.become) is.settled
 
   none : (text : Option (String Global)) → HasText finds page edits text → with_edits page 0 edits ≡ page → IsNone text
   none None is same = refl
@@ -316,60 +335,65 @@ KeepsLinks-rewritten finds m page edits text is = record {
 -- ---- the pages of a site
 
 -- a page that is rewritten between its normal directories is rewritten between its directories
-pub ForMovedPage-rewritten : (finds : List ℕ → List Target → Type 0) (moves : List Move) (page : List Step)
-    (moved : PageMove) (text : List ℕ) (edits : List Edit) (new : Option (String Global))
+pub ForMovedPage-rewritten : (finds : List ℕ → List Target → Type 0) (root : Option (List Step)) (moves : List Move)
+    (page : List Step) (moved : PageMove) (text : List ℕ) (edits : List Edit) (new : Option (String Global))
     → IsNormalTextOf (directory page) moved.before
     → AtTreePath moves page (λ now. IsNormalTextOf now moved.path × IsNormalTextOf (directory now) moved.after)
-    → IsRewritten finds (moving moves moved) text edits new
+    → IsRewritten finds (page_moving root moves moved) text edits new
     → AtTreePath moves page (λ now. IsNormalTextOf now moved.path
-    × IsRewritten finds (moved_to moves page now) text edits new)
-ForMovedPage-rewritten finds moves page moved text edits new before (now, there, (normal, after)) is = (
+    × IsRewritten finds (moved_to root moves page now) text edits new)
+ForMovedPage-rewritten finds root moves page moved text edits new before (now, there, (normal, after)) is = (
   now,
   there,
   (
     normal,
-    IsRewritten-same (moving moves moved) (moved_to moves page now)
-        (record { moves = refl; before = IsSame-sym before.same; after = IsSame-sym after.same }) finds text edits new is,
+    IsRewritten-same (page_moving root moves moved) (moved_to root moves page now)
+        (record { moves = refl; before = IsSame-sym before.same; after = IsSame-sym after.same; root = refl }) finds text edits
+        new is,
   ),
 )
 
--- rewritten pages keep their links
-pub KeepTheirLinks-rewritten : (finds : List ℕ → List Target → Type 0) (moves : List Move) (pages : List SitePage)
-    (news : List MovedSitePage) → AreRewritten finds moves pages news → KeepTheirLinks finds moves pages news
-KeepTheirLinks-rewritten finds moves [] [] are = tt
-KeepTheirLinks-rewritten finds moves [] (new ∷ news) are = absurd are
-KeepTheirLinks-rewritten finds moves (page ∷ pages) [] are = absurd are
-KeepTheirLinks-rewritten finds moves (page ∷ pages) (new ∷ news) ((now, there, (normal, is)), are) = (
-  (
-    now,
-    there,
+module _ (finds : List ℕ → List Target → Type 0) (root : Option (List Step)) (moves : List Move) where
+  -- rewritten pages keep their links
+  pub KeepTheirLinks-rewritten : (pages : List SitePage) (news : List MovedSitePage)
+      → AreRewritten finds root moves pages news → KeepTheirLinks finds root moves pages news
+  KeepTheirLinks-rewritten [] [] are = tt
+  KeepTheirLinks-rewritten [] (new ∷ news) are = absurd are
+  KeepTheirLinks-rewritten (page ∷ pages) [] are = absurd are
+  KeepTheirLinks-rewritten (page ∷ pages) (new ∷ news) ((now, there, (normal, is)), are) = (
     (
-      normal,
-      KeepsLinks-rewritten finds (moved_to moves (components page.path.now) now) page.text.now new.edits.items new.text is,
+      now,
+      there,
+      (
+        normal,
+        KeepsLinks-rewritten finds (moved_to root moves (components page.path.now) now) page.text.now new.edits.items new.text is,
+      ),
     ),
-  ),
-  KeepTheirLinks-rewritten finds moves pages news are,
-)
+    KeepTheirLinks-rewritten pages news are,
+  )
 
 -- the pages so far are rewritten
-pub record SiteSoFar (finds : List ℕ → List Target → Type 0) (moves : List Move) (pages : List SitePage)
-    (left : List SitePage) (news : List MovedSitePage) : Type 0 where
-  pub rewritten : (more : List MovedSitePage) → AreRewritten finds moves left more
-      → AreRewritten finds moves pages (news ++ more)
+pub record SiteSoFar (finds : List ℕ → List Target → Type 0) (root : Option (List Step)) (moves : List Move)
+    (pages : List SitePage) (left : List SitePage) (news : List MovedSitePage) : Type 0 where
+  pub rewritten : (more : List MovedSitePage) → AreRewritten finds root moves left more
+      → AreRewritten finds root moves pages (news ++ more)
 
 -- so is the next one
-pub SiteSoFar-next : (finds : List ℕ → List Target → Type 0) (moves : List Move) (pages : List SitePage) (page : SitePage)
-    (k : ℕ) (news : List MovedSitePage) (new : MovedSitePage) → k < length pages → page ≡ get_or pages k page
-    → ForMovedPage (IsRewritten finds) moves page new → SiteSoFar finds moves pages (drop k pages) news
-    → SiteSoFar finds moves pages (drop (k + 1) pages) (news ++ new ∷ [])
-SiteSoFar-next finds moves pages page k news new within is one so_far = record {
+pub SiteSoFar-next : (finds : List ℕ → List Target → Type 0) (root : Option (List Step)) (moves : List Move)
+    (pages : List SitePage) (page : SitePage) (k : ℕ) (news : List MovedSitePage) (new : MovedSitePage) → k < length pages
+    → page ≡ get_or pages k page → ForMovedPage (IsRewritten finds) root moves page new
+    → SiteSoFar finds root moves pages (drop k pages) news
+    → SiteSoFar finds root moves pages (drop (k + 1) pages) (news ++ new ∷ [])
+SiteSoFar-next finds root moves pages page k news new within is one so_far = record {
   rewritten = λ more rest.
       let left = drop_more pages k page within ∙ ap (λ next. next ∷ drop (k + 1) pages) (sym is) in
-      subst (AreRewritten finds moves pages) (sym (append_assoc news (new ∷ []) more))
-      (so_far.rewritten (new ∷ more) (subst (λ pages. AreRewritten finds moves pages (new ∷ more)) (sym left) (one, rest)));
+      subst (AreRewritten finds root moves pages) (sym (append_assoc news (new ∷ []) more))
+      (so_far.rewritten (new ∷ more)
+      (subst (λ pages. AreRewritten finds root moves pages (new ∷ more)) (sym left) (one, rest)));
 }
 
-pub SiteSoFar-end : (finds : List ℕ → List Target → Type 0) (moves : List Move) (pages left : List SitePage)
-    (news : List MovedSitePage) → left ≡ [] → SiteSoFar finds moves pages left news → AreRewritten finds moves pages news
-SiteSoFar-end finds moves pages left news none so_far =
-    subst (AreRewritten finds moves pages) (append-nil news) (so_far.rewritten [] (rw none tt))
+pub SiteSoFar-end : (finds : List ℕ → List Target → Type 0) (root : Option (List Step)) (moves : List Move)
+    (pages left : List SitePage) (news : List MovedSitePage) → left ≡ [] → SiteSoFar finds root moves pages left news
+    → AreRewritten finds root moves pages news
+SiteSoFar-end finds root moves pages left news none so_far =
+    subst (AreRewritten finds root moves pages) (append-nil news) (so_far.rewritten [] (rw none tt))

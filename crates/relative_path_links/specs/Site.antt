@@ -10,11 +10,12 @@ use Rattle.relative_path_moves.specs.Moves.{Move}
 use Rattle.relative_path_places.specs.Places.{directory}
 use Rattle.relative_path_moves.specs.TreeMoves.{AtTreePath, IsLeftInPlace}
 use Rattle.target_paths.specs.declared.target.TargetSyntax.{TargetSyntax}
-use Rattle.target_paths.specs.Reading.{Meaning, not_relative, path_before, unknown, meaning}
+use Rattle.target_paths.specs.Reading.{Meaning, not_relative, path_before, unknown}
 use Rattle.relative_path_links.specs.Targets.{target_text, HasTargets}
 use Rattle.relative_path_links.specs.Edits.{targets_of, IsGivenUp, IsSettled}
 use Rattle.relative_path_links.specs.Reading.{HasCause, HasText}
-use Rattle.relative_path_links.specs.Rewriter.{Moving, AtFile, Becomes, HasFileBy}
+use Rattle.relative_path_links.specs.SiteRoot.{Moving, PageMoving, meaning_at, moving_for}
+use Rattle.relative_path_links.specs.Rewriter.{AtFile, Becomes, HasFileBy}
 use Rattle.relative_path_links.specs.declared.edit.Change.{Change}
 use Rattle.relative_path_links.specs.declared.edit.Change.TheVariants.{Kept, New, Left}
 use Rattle.relative_path_links.specs.declared.edit.Edit.{Edit}
@@ -25,24 +26,24 @@ use Rattle.relative_path_links.specs.declared.site.SitePage.{SitePage}
 
 -- the page's edits are those of the rewriter, but for new targets that are given up, and none is unless the page would read
 -- otherwise with all of them; the page changes to the text, which reads as the edits say
-pub record IsRewritten (finds : List ℕ → List Target → Type 0) (m : Moving) (page : List ℕ) (edits : List Edit)
+pub record IsRewritten (finds : List ℕ → List Target → Type 0) (p : PageMoving) (page : List ℕ) (edits : List Edit)
     (text : Option (String Global)) : Type 0 where
   pub found : finds page (targets_of edits)
   pub in_order : HasTargets page 0 (targets_of edits)
   pub written : List Edit
-  pub become : All (Becomes m page) written
+  pub become : All (Becomes p page) written
   pub new : All (λ edit. ¬ IsGivenUp edit.change) written
   pub settled : AllZip IsSettled written edits
   pub cause : HasCause finds page written edits
   pub text_is : HasText finds page edits text
 
--- a reader of the syntax takes the text as a path that leads from the page's new directory to where the file is to which
--- the old path led, and the query and fragment after it are the old ones
+-- a reader of the syntax takes the text as a path that leads, from where the target leads after the moves, to where the
+-- file is to which the old path led, and the query and fragment after it are the old ones
 pub record LeadsOn (m : Moving) (syntax : TargetSyntax) (target path : List ℕ) (tail_at : ℕ) (text : List ℕ)
     : Type 0 where
   pub new : List ℕ
   pub new_tail_at : ℕ
-  pub read : meaning syntax text ≡ path_before new new_tail_at
+  pub read : meaning_at m.is_rooted syntax text ≡ path_before new new_tail_at
   pub leads : AtFile m path (λ file. Leads m.after (components new) file)
   pub tail : drop new_tail_at text ≡ drop tail_at target
 
@@ -59,12 +60,17 @@ KeepsLinkBy m syntax target change not_relative = change ≡ Kept
 KeepsLinkBy m syntax target change (unknown why) = (change ≡ Left (Unknown why)) ⊎ (change ≡ Kept) × (m.moves ≡ [])
 KeepsLinkBy m syntax target change (path_before path tail_at) = LeadsOnBy m syntax target path tail_at change
 
--- a target of the page keeps its link, and has its file
-abbrev pub KeepsLink : Moving → List ℕ → Edit → Type 0
-KeepsLink m page edit =
+-- a target of the page keeps its link, and has its file, by the moves of the target
+abbrev pub KeepsLinkOf : Moving → List ℕ → Edit → Type 0
+KeepsLinkOf m page edit =
     KeepsLinkBy m edit.target.syntax (target_text page edit.target) edit.change
-    (meaning edit.target.syntax (target_text page edit.target))
-    × HasFileBy m edit.file (meaning edit.target.syntax (target_text page edit.target))
+    (meaning_at m.is_rooted edit.target.syntax (target_text page edit.target))
+    × HasFileBy m edit.file (meaning_at m.is_rooted edit.target.syntax (target_text page edit.target))
+
+-- a target of the page keeps its link, and has its file: it leads from the site's root, if that is known and the target
+-- begins with one slash, and still does after the moves
+abbrev pub KeepsLink : PageMoving → List ℕ → Edit → Type 0
+KeepsLink p page edit = KeepsLinkOf (moving_for p (target_text page edit.target)) page edit
 
 -- if a target with this meaning is read as a path, no move takes along the file to which the path leads
 abbrev pub StaysInPlace : Moving → Meaning → Type 0
@@ -72,42 +78,49 @@ StaysInPlace m not_relative = ⊤
 StaysInPlace m (unknown why) = ⊤
 StaysInPlace m (path_before path tail_at) = IsLeftInPlace m.moves (m.before ++ components path)
 
+-- no move takes along the file to which a target of the page leads
+abbrev pub TargetStays : Moving → List ℕ → Target → Type 0
+TargetStays m page target = StaysInPlace m (meaning_at m.is_rooted target.syntax (target_text page target))
+
 -- no move takes along a file to which one of the targets leads
-abbrev pub StayInPlace : Moving → List ℕ → List Target → Type 0
-StayInPlace m page [] = ⊤
-StayInPlace m page (target ∷ targets) =
-    StaysInPlace m (meaning target.syntax (target_text page target)) × StayInPlace m page targets
+abbrev pub StayInPlace : PageMoving → List ℕ → List Target → Type 0
+StayInPlace p page [] = ⊤
+StayInPlace p page (target ∷ targets) =
+    TargetStays (moving_for p (target_text page target)) page target × StayInPlace p page targets
 
 -- neither the page's directory nor a file to which a target of the page leads is moved
-pub record NothingMoves (m : Moving) (page : List ℕ) (targets : List Target) : Type 0 where
-  pub directory : IsSame m.before m.after
-  pub files : StayInPlace m page targets
+pub record NothingMoves (p : PageMoving) (page : List ℕ) (targets : List Target) : Type 0 where
+  pub directory : IsSame p.before p.after
+  pub files : StayInPlace p page targets
 
 -- the finder finds the targets of the edits in the page, and each keeps its link; the page changes to the text, with the
 -- edits alone, which reads as they say; a page for which nothing moves stays as it is
-pub record KeepsLinks (finds : List ℕ → List Target → Type 0) (m : Moving) (page : List ℕ) (edits : List Edit)
+pub record KeepsLinks (finds : List ℕ → List Target → Type 0) (p : PageMoving) (page : List ℕ) (edits : List Edit)
     (text : Option (String Global)) : Type 0 where
   pub found : finds page (targets_of edits)
   pub in_order : HasTargets page 0 (targets_of edits)
-  pub links : All (KeepsLink m page) edits
+  pub links : All (KeepsLink p page) edits
   pub text_is : HasText finds page edits text
-  pub same : NothingMoves m page (targets_of edits) → IsNone text
+  pub same : NothingMoves p page (targets_of edits) → IsNone text
 
--- the moves, with the directory of a page at this path before them and of the page at its new path after them
-abbrev pub moved_to : List Move → List Step → List Step → Moving
-moved_to moves page now = record { moves = moves; before = directory page; after = directory now }
+-- the moves, with the directory of a page at this path before them and of the page at its new path after them, and the
+-- site's root
+abbrev pub moved_to : Option (List Step) → List Move → List Step → List Step → PageMoving
+moved_to root moves page now = record { moves = moves; before = directory page; after = directory now; root = root }
 
 -- P holds of a page: of its text, its edits and its new text, as it moves from its path to its new path
-abbrev pub ForMovedPage : (Moving → List ℕ → List Edit → Option (String Global) → Type 0) → List Move
-    → SitePage → MovedSitePage
+abbrev pub ForMovedPage : (PageMoving → List ℕ → List Edit → Option (String Global) → Type 0) → Option (List Step)
+    → List Move → SitePage → MovedSitePage
     → Type 0
-ForMovedPage P moves page new = AtTreePath moves (components page.path.now) (λ now. IsNormalTextOf now new.path
-    × P (moved_to moves (components page.path.now) now) page.text.now new.edits.items new.text)
+ForMovedPage P root moves page new = AtTreePath moves (components page.path.now) (λ now. IsNormalTextOf now new.path
+    × P (moved_to root moves (components page.path.now) now) page.text.now new.edits.items new.text)
 
--- the pages of a site are rewritten
-abbrev pub AreRewritten : (List ℕ → List Target → Type 0) → List Move → List SitePage → List MovedSitePage → Type 0
-AreRewritten finds moves pages news = AllZip (ForMovedPage (IsRewritten finds) moves) pages news
+-- the pages of a site with this root are rewritten
+abbrev pub AreRewritten : (List ℕ → List Target → Type 0) → Option (List Step) → List Move → List SitePage
+    → List MovedSitePage → Type 0
+AreRewritten finds root moves pages news = AllZip (ForMovedPage (IsRewritten finds) root moves) pages news
 
--- the pages of a site keep their links
-abbrev pub KeepTheirLinks : (List ℕ → List Target → Type 0) → List Move → List SitePage → List MovedSitePage → Type 0
-KeepTheirLinks finds moves pages news = AllZip (ForMovedPage (KeepsLinks finds) moves) pages news
+-- the pages of a site with this root keep their links
+abbrev pub KeepTheirLinks : (List ℕ → List Target → Type 0) → Option (List Step) → List Move → List SitePage
+    → List MovedSitePage → Type 0
+KeepTheirLinks finds root moves pages news = AllZip (ForMovedPage (KeepsLinks finds) root moves) pages news

@@ -15,6 +15,9 @@ pub enum Unchanged {
     AboveRoot,
     /// No path leads from the page's new directory to its file.
     NoPath,
+    /// It begins with a slash, and its file is outside of the site's root: the shortest path from the root to the file
+    /// leads above the root.
+    OutsideSiteRoot,
     /// The path to its file has a NUL, which no target spells.
     Nul,
     /// What it means isn't known, so it may lead to a file that moved.

@@ -5,7 +5,7 @@
 //! pages of a site       site
 //! pages and links       site_map  rewriter  reread
 //! targets, edits        finder  edit
-//! a target              target
+//! a target              target  site_root
 //! ```
 #![tactic(auto)]
 
@@ -14,6 +14,7 @@ pub use self::finder::{Finder, Markdown, targets};
 pub use self::rewriter::rewrite_links;
 pub use self::site::{MovedSitePage, SitePage, rewrite_site};
 pub use self::site_map::{SiteMap, SiteMapError};
+pub use self::site_root::SiteRoot;
 pub use self::target::{Target, are_in_order};
 
 mod edit;
@@ -22,4 +23,5 @@ mod reread;
 mod rewriter;
 mod site;
 mod site_map;
+mod site_root;
 mod target;

@@ -1,5 +1,5 @@
 //! Rewrites the targets of a page after files moved.
-ghost use Rattle.std.specs.Prelude.{◌≡◌, ◌++◌, IfOk, string_bytes};
+ghost use Rattle.std.specs.Prelude.{◌≡◌, ◌++◌, drop, IfOk, IsTrue, List, string_bytes};
 ghost use Rattle.std.specs.List.{All, list_any};
 ghost use Rattle.relative_path.specs.Steps.{components};
 ghost use Rattle.relative_path.specs.Normalizing.{IsNormalTextOf};
@@ -7,43 +7,51 @@ ghost use Rattle.target_paths.specs.Reading.{IsTail};
 ghost use Rattle.target_paths.specs.Writing.{is_nul};
 ghost use Rattle.relative_path_links.specs.Targets.{HasTarget, HasTargets};
 ghost use Rattle.relative_path_links.specs.Edits.{IsGivenUp, targets_of};
+ghost use Rattle.relative_path_links.specs.SiteRoot.{begins_with_dot, moving_from, page_moving};
 ghost use Rattle.relative_path_links.specs.Rewriter.{
   Becomes,
-  begins_with_dot,
+  BecomesBy,
   begins_with_up,
   ChangesPath,
+  ends_in_dots,
+  IsChangeAt,
   IsChangeByWay,
-  moving,
+  IsRootedChangeByWay,
+  lacks_slash,
   unknown_change,
   with_dot,
   with_slash,
 };
 
 use crate::edit::{Change, Edit, Unchanged};
+use crate::site_root::{SiteRoot, Start, begins_with_dot, read_at};
 use crate::target::Target;
 use relative_path::{RelativePath, RelativePathBuf};
 use relative_path_moves::{MovedReference, PageMove, ReferenceError, TreeMoves};
-use relative_path_places::NormalPath;
+use relative_path_places::{NormalPath, has_place};
 use std::alloc::{AllocError, Global};
-use target_paths::{TargetReading, TargetSyntax, WhyUnknown, path_of_target, push_target_of_path};
+use target_paths::{TargetReading, TargetSyntax, WhyUnknown, push_target_of_path};
 
 /// Returns what becomes of each target of a page after the moves of a table. With these edits each target leads
-/// from the page's new directory to the file to which it led before, wherever that file is now.
-/// [`edited`](crate::edited) returns the page with them.
+/// from the page's new directory, or from the site's root, to the file to which it led before, wherever that file is
+/// now. [`edited`](crate::edited) returns the page with them.
 ///
 /// The targets are those that [`targets`](crate::targets) finds, or others that are in order in the page, as
 /// [`are_in_order`](crate::are_in_order) tests. `moved` is what [`TreeMoves::moved_page`] returns for the path
 /// of the page before the moves; the page itself may move or stay.
 ///
-/// Each target is read as a browser reads it, by [`path_of_target`]. A target that isn't a relative path is
+/// Each target is read as a browser reads it, by [`SiteRoot::read_target`]. A target that isn't read as a path is
 /// kept. So is a target whose path, as it is written, still leads to its file. The path of another becomes the
 /// shortest path to the file, written by [`target_of_path`](target_paths::target_of_path); a slash at its
 /// end, the query and the fragment stay, and so does `./` at its start, unless the new path begins with `..`.
-/// If there is no such path, the target is left as it is. A target whose meaning isn't known is left too, if
-/// the table has a move, since it may lead to what moved.
+/// A path that ends in `.` or `..` is a directory's, as if it had a slash at its end: so the new path gets that slash,
+/// unless it ends in `..` too. A target that leads from the site's root begins with a slash again. If there is no such
+/// path, the target is left as it is. A target whose meaning isn't known is left too, if the table has a move, since it
+/// may lead to what moved.
 ///
-/// Allocates the list of edits, and for each target what [`path_of_target`] and [`TreeMoves::reference_in`] do, its
-/// new text, and the new path if it begins with `./`. The only error is lack of memory.
+/// Allocates the list of edits, and for each target what [`SiteRoot::read_target`] and [`TreeMoves::reference_in`] do,
+/// its new text, the new path if it begins with `./`, and a copy of the new text if it begins with a slash. The only
+/// error is lack of memory.
 ///
 /// ```
 /// let moves = [("a.md", "docs/a.md"), ("my b.md", "docs/more/b.md")]
@@ -53,7 +61,7 @@ use target_paths::{TargetReading, TargetSyntax, WhyUnknown, path_of_target, push
 /// let found = targets(alloc, page)?;
 /// let path = NormalPath::of(alloc, RelativePath::new("a.md"))?;
 /// let moved = moves.moved_page(alloc, &path)?;
-/// let edits = rewrite_links(alloc, page, &found, &moves, &moved)?;
+/// let edits = rewrite_links(alloc, page, &found, &SiteRoot::unknown(), &moves, &moved)?;
 /// let expected = "[b](more/b.md#top), <img src='../img/c.png'>, [d](../d.md)";
 /// assert_eq!(rt; edited(alloc, page, &edits)?.as_str(), expected);
 /// assert_eq!(rt; edits[2].change, Change::Left(Unchanged::AboveRoot));
@@ -62,6 +70,7 @@ pub fn rewrite_links(
     alloc: Global,
     page: &str,
     targets: &[Target],
+    root: &SiteRoot,
     moves: &TreeMoves<'_>,
     moved: &PageMove,
 ) -> Result<Vec<Edit>, AllocError>
@@ -70,14 +79,14 @@ pub fn rewrite_links(
     ensures targets { IfOk result (λ edits. targets_of edits.items ≡ targets.now) }
     // each target becomes what `Becomes` says
     ensures changes { IfOk result
-        (λ edits. All (Becomes (moving moves.now moved.now) page.now) edits.items) }
+        (λ edits. All (Becomes (page_moving root.now moves.now moved.now) page.now) edits.items) }
     // no new target is given up
     ensures new { IfOk result (λ edits. All (λ edit. ¬ IsGivenUp edit.change) edits.items) }
 {
     let mut edits = Vec::with_capacity(alloc, targets.len())?;
     let mut rest = targets;
     while let Some((target, others)) = rest.split_first() {
-        edits.push(edit_of(alloc, page, *target, moves, moved)?)?;
+        edits.push(edit_of(alloc, page, *target, root, moves, moved)?)?;
         rest = others;
     }
     Ok(edits)
@@ -88,16 +97,34 @@ fn edit_of(
     alloc: Global,
     page: &str,
     target: Target,
+    root: &SiteRoot,
     moves: &TreeMoves<'_>,
     moved: &PageMove,
 ) -> Result<Edit, AllocError>
     requires { HasTarget page.now target }
     ensures target { IfOk result (λ edit. edit.target ≡ target) }
-    ensures becomes { IfOk result (Becomes (moving moves.now moved.now) page.now) }
+    ensures becomes { IfOk result (Becomes (page_moving root.now moves.now moved.now) page.now) }
+    ensures new { IfOk result (λ edit. ¬ IsGivenUp edit.change) }
+{
+    let start = root.start(target.text(page), moved);
+    edit_from(alloc, page, target, start, moves)
+}
+
+// Returns what becomes of a target that leads from here.
+fn edit_from(
+    alloc: Global,
+    page: &str,
+    target: Target,
+    start: Start<'_>,
+    moves: &TreeMoves<'_>,
+) -> Result<Edit, AllocError>
+    requires { HasTarget page.now target }
+    ensures target { IfOk result (λ edit. edit.target ≡ target) }
+    ensures becomes { IfOk result (BecomesBy (moving_from moves.now start.entry) page.now) }
     ensures new { IfOk result (λ edit. ¬ IsGivenUp edit.change) }
 {
     let text = target.text(page);
-    match path_of_target(alloc, target.syntax, text)? {
+    match read_at(alloc, start.is_rooted, target.syntax, text)? {
         TargetReading::NotRelative => Ok(Edit {
             target,
             change: Change::Kept,
@@ -114,8 +141,8 @@ fn edit_of(
                 target.syntax,
                 &path,
                 &text[tail_at..],
+                start,
                 moves,
-                moved,
             )?;
             Ok(Edit {
                 target,
@@ -138,31 +165,76 @@ fn unknown_change(moves: &TreeMoves<'_>, why: WhyUnknown) -> Change
     }
 }
 
-// Returns the file to which a path leads in a page, and what becomes of a target that is this path and then the tail.
+// Returns the file to which a path leads, and what becomes of a target that is this path and then the tail.
 fn follow(
     alloc: Global,
     syntax: TargetSyntax,
     path: &str,
     tail: &str,
+    start: Start<'_>,
     moves: &TreeMoves<'_>,
-    moved: &PageMove,
 ) -> Result<(NormalPath, Change), AllocError>
+    requires { IsTrue start.is_rooted → IsTrue (begins_with_dot path.now) }
     ensures file { IfOk result (λ found.
-        IsNormalTextOf (components moved.now.before ++ components path.now) found.0) }
+        IsNormalTextOf ((moving_from moves.now start.entry).before ++ components path.now) found.0) }
     ensures change { IsTail syntax tail.now → IfOk result (λ found.
-        ChangesPath (moving moves.now moved.now) syntax path.now tail.now found.1) }
+        ChangesPath (moving_from moves.now start.entry) syntax path.now tail.now found.1) }
     ensures new { IfOk result (λ found. ¬ IsGivenUp found.1) }
 {
-    let MovedReference { file, moved } = moves.reference_in(alloc, moved, RelativePath::new(path))?;
+    let path_on = RelativePath::new(path);
+    let MovedReference { file, moved } = moves.reference_in(alloc, start.directory, path_on)?;
     match moved {
         Ok(None) => Ok((file, Change::Kept)),
         Ok(Some(way)) => {
-            let change = new_target(alloc, path, tail, way)?;
+            let change = change_by_way(alloc, start.is_rooted, path, tail, way)?;
             Ok((file, change))
         }
         Err(ReferenceError::AboveRoot) => Ok((file, Change::Left(Unchanged::AboveRoot))),
         Err(ReferenceError::NoPath) => Ok((file, Change::Left(Unchanged::NoPath))),
         Err(ReferenceError::OutOfMemory) => Err(AllocError),
+    }
+}
+
+// Returns what becomes of a target that is this path and then the tail, by the way to its file.
+fn change_by_way(
+    alloc: Global,
+    is_rooted: bool,
+    path: &str,
+    tail: &str,
+    way: RelativePathBuf,
+) -> Result<Change, AllocError>
+    requires { IsTrue is_rooted → IsTrue (begins_with_dot path.now) }
+    ensures change { IfOk result (IsChangeAt is_rooted path.now tail.now way.text) }
+    ensures new { IfOk result (λ change. ¬ IsGivenUp change) }
+{
+    if is_rooted {
+        new_rooted_target(alloc, path, tail, way)
+    } else {
+        new_target(alloc, path, tail, way)
+    }
+}
+
+// Returns the target for a way from the site's root: the one for the way as it is, without the dot at its start.
+fn new_rooted_target(
+    alloc: Global,
+    path: &str,
+    tail: &str,
+    way: RelativePathBuf,
+) -> Result<Change, AllocError>
+    requires { IsTrue (begins_with_dot path.now) }
+    ensures change { IfOk result (IsRootedChangeByWay path.now tail.now way.text) }
+    ensures new { IfOk result (λ change. ¬ IsGivenUp change) }
+{
+    if !has_place(way.as_relative_path()) {
+        return Ok(Change::Left(Unchanged::OutsideSiteRoot));
+    }
+    match new_target(alloc, path, tail, way)? {
+        Change::Kept => Ok(Change::Kept),
+        Change::New(text) => {
+            let text = String::from_str(alloc, &text[1..])?;
+            Ok(Change::New(text))
+        }
+        Change::Left(why) => Ok(Change::Left(why)),
     }
 }
 
@@ -201,13 +273,6 @@ fn with_dot(alloc: Global, path: &str, way: String) -> Result<String, AllocError
     Ok(new)
 }
 
-// Returns whether an old path begins with `./`.
-fn begins_with_dot(path: &str) -> bool
-    ensures { result ≡ begins_with_dot path.now }
-{
-    path.as_bytes().starts_with(b"./")
-}
-
 // Returns whether a way begins with `..`.
 fn begins_with_up(way: &str) -> bool
     ensures { result ≡ begins_with_up way.now }
@@ -215,14 +280,32 @@ fn begins_with_up(way: &str) -> bool
     way == ".." || way.as_bytes().starts_with(b"../")
 }
 
-// Returns the way, with a slash at its end if the path has one.
+// Returns the way, with a slash at its end if it lacks the slash of the path.
 fn with_slash(path: &str, mut way: String) -> Result<String, AllocError>
     ensures { IfOk result (λ new. string_bytes new ≡ with_slash path.now (string_bytes way)) }
 {
-    if path.ends_with('/') && !way.ends_with('/') {
+    if lacks_slash(path, &way) {
         way.push('/')?;
     }
     Ok(way)
+}
+
+// Returns whether a way lacks the slash of the path: it has none at its end, and the path has one, or is a directory's
+// without one, and the way isn't.
+fn lacks_slash(path: &str, way: &str) -> bool
+    ensures { result ≡ lacks_slash path.now way.now }
+{
+    (path.ends_with('/') || ends_in_dots(path) && !ends_in_dots(way)) && !way.ends_with('/')
+}
+
+// Returns whether the last component of a path is `.` or `..`, with no slash after it.
+fn ends_in_dots(path: &str) -> bool
+    ensures { result ≡ ends_in_dots path.now }
+{
+    path == "."
+        || path == ".."
+        || path.as_bytes().ends_with(b"/.")
+        || path.as_bytes().ends_with(b"/..")
 }
 
 fn has_nul(path: &str) -> bool

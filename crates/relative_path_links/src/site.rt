@@ -6,6 +6,7 @@ use crate::edit::Edit;
 use crate::finder::Finder;
 use crate::reread::settle;
 use crate::rewriter::rewrite_links;
+use crate::site_root::SiteRoot;
 use relative_path_moves::TreeMoves;
 use relative_path_places::NormalPath;
 use std::alloc::{AllocError, Global};
@@ -13,7 +14,7 @@ use std::alloc::{AllocError, Global};
 /// A page of a site before the moves.
 #[derive(Clone, Copy, Debug)]
 pub struct SitePage<'a> {
-    /// Its path from the root of the site.
+    /// Its path from the root.
     pub path: &'a NormalPath,
     /// Its text.
     pub text: &'a str,
@@ -22,7 +23,7 @@ pub struct SitePage<'a> {
 /// A page of a site after the moves.
 #[derive(Drop)]
 pub struct MovedSitePage {
-    /// Its path from the root of the site.
+    /// Its path from the root.
     pub path: NormalPath,
     /// What becomes of each of its targets.
     pub edits: Vec<Edit>,
@@ -34,8 +35,9 @@ pub struct MovedSitePage {
 /// before, wherever that file is now, or it is left.
 ///
 /// The links of a page are those whose targets the finder finds, as [`Markdown`](crate::Markdown) does. A link
-/// leads, as a browser reads its target, from the directory of its page. All bytes outside the targets stay. A page
-/// stays as it is if its directory doesn't move and no link of it leads to a file that moves.
+/// leads, as a browser reads its target, from the directory of its page, or from the site's root, if that is known and
+/// the target begins with one slash. All bytes outside the targets stay. A page stays as it is if its directory doesn't
+/// move and no link of it leads to a file that moves.
 ///
 /// A page that changes is read again. If the finder doesn't find the targets of the edits where they are now, or
 /// finds others, the new target next to the first difference is given up. It is left as it is, with the reason
@@ -51,26 +53,27 @@ pub struct MovedSitePage {
 /// let moves = TreeMoves::new(alloc, &moves)?;
 /// let index = NormalPath::of(alloc, RelativePath::new("index.md"))?;
 /// let page = SitePage { path: &index, text: "[a](guide/a.md)" };
-/// let moved = rewrite_site(alloc, &[page], &moves, &Markdown)?;
+/// let moved = rewrite_site(alloc, &[page], &SiteRoot::unknown(), &moves, &Markdown)?;
 /// assert_eq!(rt; moved[0].path.as_relative_path().as_str(), "index.md");
 /// assert_eq!(rt; moved[0].text.as_deref(), Some("[a](docs/guide/a.md)"));
 /// ```
 pub fn rewrite_site<F: Finder>(
     alloc: Global,
     pages: &[SitePage<'_>],
+    root: &SiteRoot,
     moves: &TreeMoves<'_>,
     finder: &F,
 ) -> Result<Vec<MovedSitePage>, AllocError>
     // each page as by `rewrite_links`, but for targets that are given up, at its path after the moves
     ensures rewritten { IfOk result
-        (λ new. AreRewritten (F.finds finder.now) moves.now pages.now new.items) }
-    // each relative link still leads to its file, query and fragment kept, or is left, and is found again
+        (λ new. AreRewritten (F.finds finder.now) root.now moves.now pages.now new.items) }
+    // each link that is read still leads to its file, query and fragment kept, or is left, and is found again
     ensures links { IfOk result
-        (λ new. KeepTheirLinks (F.finds finder.now) moves.now pages.now new.items) }
+        (λ new. KeepTheirLinks (F.finds finder.now) root.now moves.now pages.now new.items) }
 {
     let mut moved = Vec::with_capacity(alloc, pages.len())?;
     for page in pages {
-        moved.push(moved_page(alloc, *page, moves, finder)?)?;
+        moved.push(moved_page(alloc, *page, root, moves, finder)?)?;
     }
     Ok(moved)
 }
@@ -79,14 +82,15 @@ pub fn rewrite_site<F: Finder>(
 fn moved_page<F: Finder>(
     alloc: Global,
     page: SitePage<'_>,
+    root: &SiteRoot,
     moves: &TreeMoves<'_>,
     finder: &F,
 ) -> Result<MovedSitePage, AllocError>
-    ensures { IfOk result (ForMovedPage (IsRewritten (F.finds finder.now)) moves.now page.entry) }
+    ensures { IfOk result (ForMovedPage (IsRewritten (F.finds finder.now)) root.now moves.now page.entry) }
 {
     let targets = finder.targets(alloc, page.text)?;
     let moved = moves.moved_page(alloc, page.path)?;
-    let edits = rewrite_links(alloc, page.text, &targets, moves, &moved)?;
+    let edits = rewrite_links(alloc, page.text, &targets, root, moves, &moved)?;
     let settled = settle(alloc, page.text, edits, finder)?;
     Ok(MovedSitePage {
         path: moved.path,

@@ -12,6 +12,7 @@ mod refusals;
 mod reread;
 mod rewriter;
 mod site_map;
+mod site_root;
 
 // Fails in the words of this case where another value was found than is expected. A call of it costs
 // a proof a fourth of what `assert_eq!` with a message does.

@@ -16,7 +16,7 @@ use Rattle.relative_path_moves.specs.MoveTable.{olds_of, LeadToFile, IsWay, IsSh
 use Rattle.relative_path_moves.proofs.MovesLemmas.{old_at, IsPathAfter-only}
 
 -- the file at the old path of a move moves
-MovesFrom-found : (moves : List Move) (place : List Step) (j : ℕ) → IsFirstAt (olds_of moves) place j
+pub MovesFrom-found : (moves : List Move) (place : List Step) (j : ℕ) → IsFirstAt (olds_of moves) place j
     → MovesFrom moves place j
 MovesFrom-found moves place j first =
     let within : j < length moves = omega (arith, first.within, length-map moves (λ move. move.old)) in

@@ -1,5 +1,5 @@
 -- The one target of a place, moves made of other values, and the first move without a file name.
-use Rattle.std.proofs.Common.{◌≡◌, ◌≢◌, ℕ, ◌<◌, ◌+◌, ◌⊎◌, List, [], ◌∷◌, ◌++◌, length, map, take, get_or, not, is_some, Bool, true, false, Bor, true≢false, Option, Some, None, inl, inr, sym, ap, subst, ◌∙◌, arith}
+use Rattle.std.proofs.Common.{◌≡◌, ◌≢◌, ℕ, ◌<◌, ◌+◌, ◌⊎◌, List, [], ◌∷◌, ◌++◌, length, map, take, get_or, not, is_some, Bool, true, false, Bor, true≢false, Option, Some, None, inl, inr, refl, sym, ap, ap₂, subst, ◌∙◌, arith}
 use Rattle.std.proofs.lemmas.Bool.{cases_lt, cases_order}
 use Rattle.std.proofs.lemmas.List.{get_or-map, length-map, map_push, take_more}
 use Rattle.std.proofs.lemmas.Option.{none-some}
@@ -10,14 +10,14 @@ use Rattle.relative_path.specs.RelativePath.{path_text, path_components}
 use Rattle.relative_path.specs.declared.path.RelativePath.{RelativePath}
 use Rattle.relative_path.proofs.ForCallers.{IsSame-sym, IsSame-trans}
 use Rattle.relative_path_moves.specs.declared.moves.Move as declared
-use Rattle.relative_path_moves.specs.Moves.{Move, LacksFileName, IsFirstNameless, moves_of, written_moves, move_at, AreApart, MovesFrom, IsPathAfter}
+use Rattle.relative_path_moves.specs.Moves.{Move, LacksFileName, IsFirstNameless, moves_of, paths_of, written_moves, move_at, AreApart, MovesFrom, IsPathAfter}
 use Rattle.relative_path_places.specs.PlaceIndex.{path_at}
 use Rattle.relative_path_moves.specs.MoveTable.{olds_of}
 
 -- ---- one target of a place
 
 -- if no two moves have the same old path, at most one move has a place as its old path
-one_move : (moves : List Move) (place : List Step) (j k : ℕ) → AreApart moves → MovesFrom moves place j
+pub one_move : (moves : List Move) (place : List Step) (j k : ℕ) → AreApart moves → MovesFrom moves place j
     → MovesFrom moves place k → j ≡ k
 one_move moves place j k apart first second = elim (cases_order j k) [
   | inl same ↦ same
@@ -76,19 +76,22 @@ olds_of-here P f xs x k l is holds =
 abbrev pub move_of_pair : RelativePath × RelativePath → Move
 move_of_pair pair = record { old = path_components pair.0; new = path_components pair.1 }
 
--- the moves of pairs, up to the next
-pub moves_of-next : (pairs : List (RelativePath × RelativePath)) (none : RelativePath × RelativePath) (k : ℕ)
-    (moves : List declared.Move) (move : declared.Move) → k < length pairs
-    → written_moves moves ≡ take k (moves_of pairs) → move.old ≡ (get_or pairs k none).0
-    → move.new ≡ (get_or pairs k none).1 → written_moves (moves ++ move ∷ []) ≡ take (k + 1) (moves_of pairs)
-moves_of-next pairs none k moves move within before old new =
-    map_push _ moves move
-    ∙ ap (λ moves. moves ++ record { old = path_components move.old; new = path_components move.new } ∷ []) before
-    ∙ ap (λ move. take k (moves_of pairs) ++ move ∷ [])
-    (ap (λ old. record { old = path_components old; new = path_components move.new }) old
-    ∙ ap (λ new. record { old = path_components (get_or pairs k none).0; new = path_components new }) new
-    ∙ sym (move_at-map _ pairs none k within))
-    ∙ sym (take_more (moves_of pairs) k _ (rw (length-map pairs _) within))
+-- the paths of moves, up to the next
+pub paths_of-next : (pairs : List (RelativePath × RelativePath)) (none : RelativePath × RelativePath) (k : ℕ)
+    (moves : List declared.Move) (move : declared.Move) → k < length pairs → map paths_of moves ≡ take k pairs
+    → move.old ≡ (get_or pairs k none).0 → move.new ≡ (get_or pairs k none).1
+    → map paths_of (moves ++ move ∷ []) ≡ take (k + 1) pairs
+paths_of-next pairs none k moves move within before old new =
+    map_push paths_of moves move ∙ ap (λ paths. paths ++ paths_of move ∷ []) before
+    ∙ ap (λ paths. take k pairs ++ paths ∷ []) (ap₂ pair_of old new) ∙ sym (take_more pairs k none within)
+  where
+    pair_of : RelativePath → RelativePath → RelativePath × RelativePath
+    pair_of old new = (old, new)
+
+-- the moves that have these paths
+pub written_moves-paths : (moves : List declared.Move) → written_moves moves ≡ moves_of (map paths_of moves)
+written_moves-paths [] = refl
+written_moves-paths (move ∷ moves) = ap (λ rest. move_of_pair (paths_of move) ∷ rest) (written_moves-paths moves)
 
 -- if `file_name` returns `None`, the path has no file name
 pub nameless : (found : Option (Bor (List ℕ))) (lacks : Bool) (name : Option (List ℕ)) → option_copied found ≡ name

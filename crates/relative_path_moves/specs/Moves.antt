@@ -4,7 +4,7 @@ use Rattle.relative_path.specs.Steps.{Step}
 use Rattle.relative_path.specs.Walk.{IsSame, place_of}
 use Rattle.relative_path.specs.Naming.{last_name}
 use Rattle.relative_path.specs.Relating.{IsReachable, IsShortestText}
-use Rattle.relative_path.specs.RelativePath.{path_components}
+use Rattle.relative_path.specs.RelativePath.{path_components, path_text}
 use Rattle.relative_path.specs.declared.path.RelativePath.{RelativePath}
 use Rattle.relative_path_places.specs.Places.{directory}
 use Rattle.relative_path_moves.specs.declared.moves.Move as declared
@@ -18,6 +18,10 @@ pub record Move : Type 0 where
 abbrev pub moves_of : List (RelativePath × RelativePath) → List Move
 moves_of = map (λ paths. record { old = path_components paths.0; new = path_components paths.1 })
 
+-- the old path and the new one of a move, as they are written
+abbrev pub paths_of : declared.Move → RelativePath × RelativePath
+paths_of move = (move.old, move.new)
+
 -- the moves that these are, by the components of their paths as they are written
 abbrev pub written_moves : List declared.Move → List Move
 written_moves = map (λ move. record { old = path_components move.old; new = path_components move.new })
@@ -29,6 +33,10 @@ turned = map (λ move. record { old = move.new; new = move.old })
 -- move number k, counted from 0
 abbrev pub move_at : List Move → ℕ → Move
 move_at moves k = slice_index_or moves k (record { old = []; new = [] })
+
+-- the text of the new path of move number k, counted from 0
+abbrev pub new_text : List (RelativePath × RelativePath) → ℕ → List ℕ
+new_text pairs k = slice_index_or (map (λ paths. path_text paths.1) pairs) k []
 
 -- the old or the new path has no file name
 abbrev pub LacksFileName : Move → Type 0

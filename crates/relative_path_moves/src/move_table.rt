@@ -4,14 +4,16 @@ ghost use Rattle.relative_path.specs.Steps.{Step, components};
 ghost use Rattle.relative_path.specs.Walk.{IsSame};
 ghost use Rattle.relative_path.specs.Relating.{Leads, IsReachable, IsShortestText};
 ghost use Rattle.relative_path.specs.RelativePath.{path_text, path_components};
+ghost use Rattle.relative_path.specs.declared.path.RelativePath.{RelativePath};
 ghost use Rattle.relative_path_moves.specs.Moves.{
-  Move,
   moves_of,
   move_at,
+  new_text,
   IsFirstNameless,
   AreNamed,
   IsFirstPair,
   AreApart,
+  MovesFrom,
   IsUnmoved,
   IsPathAfter,
   ForFile,
@@ -82,11 +84,11 @@ pub struct MoveTable<'a> {
 }
 
 impl<'a> Model for MoveTable<'a> {
-    // contracts see a list of moves
-    ghost Value = { List Move };
+    // contracts see the old path and the new one of each move, as they are given
+    ghost Value = { List (RelativePath × RelativePath) };
 
-    // the moves, by the components of their paths
-    ghost view = { λ table. moves_of table.moves.now };
+    // these pairs of paths
+    ghost view = { λ table. table.moves.now };
 
     // file names, no two equivalent old paths, and an index of these
     ghost invariant = { λ table. IsSound (moves_of table.moves.now) table.by_old };
@@ -110,7 +112,7 @@ impl<'a> MoveTable<'a> {
         moves: &'a [(RelativePath<'a>, RelativePath<'a>)],
     ) -> Result<MoveTable<'a>, MoveTableError>
         // these moves, in order
-        ensures moves { IfOk result (λ table. table ≡ moves_of moves.now) }
+        ensures moves { IfOk result (λ table. table ≡ moves.now) }
         // each path has a file name
         ensures named { OnOk result (AreNamed (moves_of moves.now)) }
         // no two old paths are equivalent
@@ -173,14 +175,14 @@ impl<'a> MoveTable<'a> {
         requires { i < length self.now }
         // `AboveRoot` exactly for a file above the root, given memory
         ensures above_root { Refuses result ReferenceError.AboveRoot ReferenceError.OutOfMemory
-            (ForFile self.now i (path_components reference.entry) ClimbsAbove) }
+            (ForFile (moves_of self.now) i (path_components reference.entry) ClimbsAbove) }
         // `NoPath` exactly for an unreachable file in the root, given memory
         ensures no_path { Refuses result ReferenceError.NoPath ReferenceError.OutOfMemory
-            (ForFile self.now i (path_components reference.entry) (BelowTop (IsBeyond self.now i))) }
+            (ForFile (moves_of self.now) i (path_components reference.entry) (BelowTop (IsBeyond (moves_of self.now) i))) }
         // the shortest path from the new directory to the file
         ensures shortest { IfOk result (λ way.
-            ForFile self.now i (path_components reference.entry)
-            (BelowTop (IsMovedText self.now i way.text))) }
+            ForFile (moves_of self.now) i (path_components reference.entry)
+            (BelowTop (IsMovedText (moves_of self.now) i way.text))) }
     {
         let (old, new) = self.paths(i);
         let meant = NormalPath::of_joined(alloc, directory(old), reference)?;
@@ -218,19 +220,19 @@ impl<'a> MoveTable<'a> {
     ) -> Result<Option<RelativePathBuf>, ReferenceError>
         // `AboveRoot` exactly for a file above the root, given memory
         ensures above_root { Refuses result ReferenceError.AboveRoot ReferenceError.OutOfMemory
-            (ForFileOfLink self.now (path_components page.entry) (path_components reference.entry)
+            (ForFileOfLink (moves_of self.now) (path_components page.entry) (path_components reference.entry)
             (λ _. ClimbsAbove)) }
         // `NoPath` exactly for an unreachable file in the root, given memory
         ensures no_path { Refuses result ReferenceError.NoPath ReferenceError.OutOfMemory
-            (ForFileOfLink self.now (path_components page.entry) (path_components reference.entry)
+            (ForFileOfLink (moves_of self.now) (path_components page.entry) (path_components reference.entry)
             (λ directory. BelowTop (λ path. ¬ IsReachable directory path))) }
         // `None` exactly if the reference still leads to its file
         ensures stays { IfOk result (λ way. IsNone way
-            ↔ ForFileOfLink self.now (path_components page.entry) (path_components reference.entry)
+            ↔ ForFileOfLink (moves_of self.now) (path_components page.entry) (path_components reference.entry)
             (λ directory. Leads directory (path_components reference.entry))) }
         // the shortest path from the new directory to the file
         ensures shortest { IfOk result (λ way. IfSome way (λ way.
-            ForFileOfLink self.now (path_components page.entry) (path_components reference.entry)
+            ForFileOfLink (moves_of self.now) (path_components page.entry) (path_components reference.entry)
             (λ directory. BelowTop (λ path. IsShortestText directory path way.text)))) }
     {
         let now = self.path_after(alloc, page)?;
@@ -239,7 +241,8 @@ impl<'a> MoveTable<'a> {
     }
 
     /// Returns the path of a file after the moves. If the path leads where the old path of a move leads,
-    /// the result is the new path of that move. Otherwise the result is the path itself, unchanged.
+    /// the result is the new path of that move, as it was given to the table. Otherwise the result is the path
+    /// itself, unchanged.
     ///
     /// Allocates the path's normal form, and fails only if that allocation fails.
     ///
@@ -257,9 +260,12 @@ impl<'a> MoveTable<'a> {
     ) -> Result<RelativePath<'b>, AllocError>
         // the components of the file's path after the moves
         ensures path { IfOk result (λ now. (path : List Step)
-            → IsPathAfter self.now (path_components file.entry) path ↔ (path ≡ path_components now)) }
+            → IsPathAfter (moves_of self.now) (path_components file.entry) path ↔ (path ≡ path_components now)) }
+        // a file that moves gets the text of its move's new path
+        ensures text { IfOk result (λ now. (j : ℕ) → MovesFrom (moves_of self.now) (path_components file.entry) j
+            → path_text now ≡ new_text self.now j) }
         // a file that doesn't move keeps its path's text
-        ensures kept { IfOk result (λ now. IsUnmoved self.now (path_components file.entry)
+        ensures kept { IfOk result (λ now. IsUnmoved (moves_of self.now) (path_components file.entry)
             → path_text now ≡ path_text file.entry) }
     {
         let place = NormalPath::of(alloc, file)?;
@@ -272,8 +278,9 @@ impl<'a> MoveTable<'a> {
     // Returns the old and the new path of a move.
     fn paths(&self, i: usize) -> (RelativePath<'a>, RelativePath<'a>)
         requires { i < length self.now }
-        ensures old { path_components result.0 ≡ (move_at self.now i).old }
-        ensures new { path_components result.1 ≡ (move_at self.now i).new }
+        ensures old { path_components result.0 ≡ (move_at (moves_of self.now) i).old }
+        ensures new { path_components result.1 ≡ (move_at (moves_of self.now) i).new }
+        ensures text { path_text result.1 ≡ new_text self.now i }
     {
         let moves = self.moves;
         moves[i]
@@ -282,7 +289,7 @@ impl<'a> MoveTable<'a> {
     // Returns the path, after the moves, of the file at a place.
     fn file_of<'b>(&'b self, place: &'b NormalPath) -> RelativePath<'b>
         ensures { (cs : List Step) → IsSame cs (components place.now)
-            → LeadToFile self.now cs (path_components result) }
+            → LeadToFile (moves_of self.now) cs (path_components result) }
     {
         match self.by_old.get(place) {
             Some(j) => self.paths(j).1,

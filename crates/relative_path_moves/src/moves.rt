@@ -1,6 +1,6 @@
 //! Moves of files and directories.
-ghost use Rattle.std.specs.Prelude.{◌≡◌, IfOk};
-ghost use Rattle.relative_path_moves.specs.Moves.{moves_of, written_moves};
+ghost use Rattle.std.specs.Prelude.{◌≡◌, map, IfOk};
+ghost use Rattle.relative_path_moves.specs.Moves.{moves_of, paths_of, written_moves};
 
 use relative_path::RelativePath;
 use relative_path_places::WrittenPath;
@@ -48,7 +48,7 @@ impl<'a> Move<'a> {
         })
     }
 
-    /// Returns the moves of these pairs of an old and a new path, in order.
+    /// Returns the moves of these pairs of an old and a new path, in order. The paths stay as they are written.
     ///
     /// Allocates the list, and the normal form of each path. Fails only if an allocation fails.
     ///
@@ -62,7 +62,10 @@ impl<'a> Move<'a> {
         alloc: Global,
         pairs: &[(RelativePath<'a>, RelativePath<'a>)],
     ) -> Result<Vec<Move<'a>>, AllocError>
-        ensures { IfOk result (λ moves. written_moves moves.items ≡ moves_of pairs.now) }
+        // these pairs of paths, as they are written
+        ensures pairs { IfOk result (λ moves. map paths_of moves.items ≡ pairs.now) }
+        // their moves
+        ensures moves { IfOk result (λ moves. written_moves moves.items ≡ moves_of pairs.now) }
     {
         let mut moves = Vec::with_capacity(alloc, pairs.len())?;
         for (old, new) in pairs {

@@ -13,6 +13,10 @@ view_text view = path_text view.path
 abbrev pub view_components : NormalView → List Step
 view_components view = components (view_text view)
 
+-- the text of a path of names
+abbrev pub name_text : NamePath → List ℕ
+name_text names = path_text names.path
+
 -- the names of a path of names
 abbrev pub name_components : NamePath → List Step
 name_components names = path_components names.path

@@ -3,7 +3,7 @@ ghost use Rattle.std.specs.Prelude.{◌≡◌, ◌↔◌, IfOk, IfSome, IsSome};
 ghost use Rattle.relative_path.specs.Walk.{place_of};
 ghost use Rattle.relative_path.specs.Normalizing.{AreNames, IsNormal};
 ghost use Rattle.relative_path.specs.Relating.{IsShortestText};
-ghost use Rattle.relative_path.specs.RelativePath.{path_components};
+ghost use Rattle.relative_path.specs.RelativePath.{path_components, path_text};
 ghost use Rattle.relative_path_places.specs.OneProof.{AreNames-prop};
 
 use crate::way::way_between;
@@ -26,12 +26,13 @@ pub struct NamePath<'a> {
 }
 
 impl<'a> NamePath<'a> {
-    ghost use Rattle.relative_path_places.specs.Views.{name_components};
+    ghost use Rattle.relative_path_places.specs.Views.{name_components, name_text};
 
     // Returns a path with normal components as names. `None` if it begins with `..`. Reads one component.
     pub(crate) fn of_normal(path: RelativePath<'a>) -> Option<NamePath<'a>>
         requires { IsNormal (path_components path) }
         ensures some { IsSome result ↔ IsSome (place_of (path_components path.entry)) }
+        ensures text { IfSome result (λ names. name_text names ≡ path_text path.entry) }
         ensures components { IfSome result (λ names. name_components names ≡ path_components path.entry) }
     {
         match path.components().next() {
@@ -50,6 +51,8 @@ impl<'a> NamePath<'a> {
     /// assert_eq!(rt; names.as_relative_path().as_str(), "a/b");
     /// ```
     pub fn as_relative_path(self) -> RelativePath<'a>
+        // the same text
+        ensures text { path_text result ≡ name_text self.entry }
         // the same components
         ensures components { path_components result ≡ name_components self.entry }
         // each component is a name

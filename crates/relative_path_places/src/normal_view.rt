@@ -1,8 +1,9 @@
 //! Parts of normal paths, borrowed.
-ghost use Rattle.std.specs.Prelude.{◌≡◌, ◌↔◌, ◌++◌, ◌∷◌, [], List, IfSome, IsNone, IsSome};
+ghost use Rattle.std.specs.Prelude.{◌≡◌, ◌↔◌, ◌++◌, ◌∷◌, [], List, length, IfSome, IsNone, IsSome};
 ghost use Rattle.relative_path.specs.Steps.{Step, spell};
 ghost use Rattle.relative_path.specs.Walk.{place_of};
 ghost use Rattle.relative_path.specs.Normalizing.{AreNames, IsNormal, IsNormalText};
+ghost use Rattle.relative_path.specs.Prefixing.{IsDropped};
 ghost use Rattle.relative_path.specs.RelativePath.{path_text, path_components};
 ghost use Rattle.relative_path_places.specs.OneProof.{IsNormal-prop};
 
@@ -25,7 +26,7 @@ pub struct NormalView<'a> {
 }
 
 impl<'a> NormalView<'a> {
-    ghost use Rattle.relative_path_places.specs.Views.{view_text, view_components, name_components};
+    ghost use Rattle.relative_path_places.specs.Views.{view_text, view_components, name_text, name_components};
 
     // Views a path with a normal text.
     pub(crate) fn of_normal(path: RelativePath<'a>) -> NormalView<'a>
@@ -83,6 +84,8 @@ impl<'a> NormalView<'a> {
     pub fn names(self) -> Option<NamePath<'a>>
         // `Some` exactly if the path leads to a place from the top
         ensures some { IsSome result ↔ IsSome (place_of (view_components self.entry)) }
+        // the same text
+        ensures text { IfSome result (λ names. name_text names ≡ view_text self.entry) }
         // the same components
         ensures components { IfSome result (λ names. name_components names ≡ view_components self.entry) }
     {
@@ -102,6 +105,9 @@ impl<'a> NormalView<'a> {
         // `Some` exactly if names lead down from `above`
         ensures some { IsSome result ↔ ((names : List Step) × AreNames names
             × (view_components self.entry ≡ view_components above.entry ++ names)) }
+        // what follows the components of `above` and their slashes
+        ensures text { IfSome result (λ names.
+            IsDropped (view_text self.entry) (length (view_components above.entry)) (name_text names)) }
         // these names
         ensures components { IfSome result (λ names.
             view_components self.entry ≡ view_components above.entry ++ name_components names) }

@@ -1,6 +1,6 @@
 //! What no clause says: outside vectors in tables, and the callers that pages show.
-use relative_path::{RelativePath, RelativePathBuf};
-use std::alloc::{AllocError, Global};
+use relative_path::RelativePathBuf;
+use std::alloc::AllocError;
 use std::fmt::Debug;
 use std::test::Fail;
 
@@ -9,16 +9,9 @@ mod bytes;
 mod calling;
 mod comparing;
 mod copying;
-mod decompositions;
-mod editing;
-mod joining;
-mod masks;
-mod naming;
 mod normalizing;
 mod platform;
-mod prefixing;
 mod printing;
-mod pushing;
 mod readme;
 mod relating;
 mod short_texts;
@@ -26,11 +19,6 @@ mod walking;
 
 fn text_of(buf: &RelativePathBuf) -> &str {
     buf.as_relative_path().as_str()
-}
-
-// The text of a path, if there is one.
-fn text_of_some<'a>(path: Option<RelativePath<'a>>) -> Option<&'a str> {
-    path.map(RelativePath::as_str)
 }
 
 // Fails in the words of this case where another value was found than is expected. A call of it costs
@@ -67,23 +55,4 @@ fn may_give(
 fn gives_text(case: &str, answer: Result<String, AllocError>, expected: &str) -> Result<(), Fail> {
     let made = answer?;
     same(case, made.as_str(), expected)
-}
-
-// A normal form, by the call that fills a buffer.
-fn filled_with_normal_form(
-    alloc: Global,
-    path: RelativePath<'_>,
-) -> Result<RelativePathBuf, AllocError> {
-    let mut filled = RelativePathBuf::with_capacity(alloc, path.as_str().len())?;
-    path.normalize_into(&mut filled);
-    Ok(filled)
-}
-
-// Whether a text has this normal form, by the call that makes a buffer, by the one that fills it, and by the one that
-// writes into bytes.
-fn normalizes(alloc: Global, text: &str, normal: &str) -> Result<(), Fail> {
-    let path = RelativePath::new(text);
-    gives(text, path.normalize(alloc), normal)?;
-    gives(text, filled_with_normal_form(alloc, path), normal)?;
-    bytes::normalizes(alloc, path, normal)
 }

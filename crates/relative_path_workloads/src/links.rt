@@ -4,7 +4,7 @@ use crate::draw::Draw;
 use crate::prose::sentences;
 use crate::refused;
 use crate::site::{Place, places, push_image_target, push_page_target, tree_of};
-use relative_path_links::{Change, Edit, Target};
+use relative_path_links::{Change, Edit, SiteRoot, Target};
 use relmove_lib::report::print_dead_link;
 use relmove_lib::{
     Moving, NameRule, Page, Position, Tree, dead_links_of, moving_of, position_after,
@@ -70,7 +70,9 @@ pub(crate) fn plan<'t>(
     for (old, new) in moves {
         pairs.push((old.as_str(), new.as_str()))?;
     }
-    let Ok(moving) = moving_of(&mut rt.store_at("site")?, tree, &pairs, NameRule::Plain) else {
+    let root = SiteRoot::unknown();
+    let mut store = rt.store_at("site")?;
+    let Ok(moving) = moving_of(&mut store, tree, &root, &pairs, NameRule::Plain) else {
         return Err(refused());
     };
     add_moving(tree, &moving, digest);

@@ -38,6 +38,6 @@ pub struct Actions {
     pub placed: Vec<Rename>,
     /// The old texts of pages that changed, under their staging names.
     pub removed: Vec<String>,
-    /// Directories that the run may have emptied, the deepest first. A directory to which a link leads isn't among them.
+    /// Directories that the run may have emptied, the deepest first.
     pub emptied: Vec<String>,
 }

@@ -1,4 +1,5 @@
 //! What the arguments of a call mean.
+use relmove_folder::PagesAs;
 use relmove_plan::NameRule;
 use relmove_run::{Direction, Printable};
 use std::alloc::{AllocError, AllocFailed, Global};
@@ -18,6 +19,12 @@ pub enum Task<'a> {
         root: &'a str,
         /// The paths after each `--exclude`.
         excluded: Vec<&'a str>,
+        /// `--fragments`
+        fragments: bool,
+        /// The form after `--pages-as`.
+        pages_as: Option<PagesAs>,
+        /// The path after `--site-root`.
+        site_root: Option<&'a str>,
         /// `--json`
         json: bool,
         /// `--verbose`
@@ -46,6 +53,8 @@ pub enum Task<'a> {
         into: bool,
         /// The paths after each `--exclude`.
         excluded: Vec<&'a str>,
+        /// The path after `--site-root`.
+        site_root: Option<&'a str>,
         /// `--write`
         write: bool,
         /// `--json`
@@ -81,6 +90,8 @@ pub enum WrongCall<'a> {
     OptionOfAnother(&'static str),
     /// The word after this option is missing.
     NoValue(&'a str),
+    /// This word after `--pages-as` is no form.
+    NoForm(&'a str),
     /// An option that can be there once is there twice.
     OptionTwice(&'static str),
     /// There is no ROOT.
@@ -112,6 +123,10 @@ impl fmt::Display for WrongCall<'_> {
                 write!(f, "{option} isn't an option of this command")
             }
             WrongCall::NoValue(option) => write!(f, "a word is missing after {option}"),
+            WrongCall::NoForm(word) => {
+                let word = Printable(word);
+                write!(f, "--pages-as takes html, dir or bare, not {word}")
+            }
             WrongCall::OptionTwice(option) => write!(f, "{option} is there twice"),
             WrongCall::NoRoot => f.write_str("ROOT is missing"),
             WrongCall::EmptyRoot => { f.write_str("ROOT is empty: the current directory is .") }
@@ -143,10 +158,11 @@ impl<T: Drop> From<AllocFailed<T>> for WrongCall<'_> {
     }
 }
 
-const OPTIONS: [&str; 15] = [
+const OPTIONS: [&str; 18] = [
     "--help",
     "--version",
     "--check",
+    "--fragments",
     "--resume",
     "--undo",
     "--write",
@@ -154,6 +170,8 @@ const OPTIONS: [&str; 15] = [
     "--any-name",
     "--into",
     "--exclude",
+    "--site-root",
+    "--pages-as",
     "--moved",
     "--moves",
     "--verbose",
@@ -162,13 +180,19 @@ const OPTIONS: [&str; 15] = [
 ];
 
 // The options with a word after them.
-const WITH_VALUE: [&str; 3] = ["--into", "--exclude", "--moves"];
+const WITH_VALUE: [&str; 5] = [
+    "--into",
+    "--exclude",
+    "--site-root",
+    "--pages-as",
+    "--moves",
+];
 
 /// Returns what a call with these arguments asks for, or what is wrong with the call. The name of the program isn't
 /// among the arguments.
 ///
 /// A word that begins with `-` is an option, wherever it is, unless a word `--` is before it. The word after `--into`,
-/// `--exclude` or `--moves` is the option's. Allocates lists of the words.
+/// `--exclude`, `--site-root`, `--pages-as` or `--moves` is the option's. Allocates lists of the words.
 pub fn task_of<'a>(alloc: Global, words: &[&'a str]) -> Result<Task<'a>, WrongCall<'a>> {
     let words = Words::of(alloc, words)?;
     if let Some(option) = unknown_option(&words.options) {
@@ -325,6 +349,8 @@ fn has(words: &[&str], word: &str) -> bool {
 
 // The call that moves files.
 fn move_of<'a>(alloc: Global, words: &Words<'a>) -> Result<Task<'a>, WrongCall<'a>> {
+    words.need_none("--fragments")?;
+    words.need_none("--pages-as")?;
     words.need_none("--trust-journal")?;
     let Some((root, paths)) = words.operands.split_first() else {
         return Err(WrongCall::NoRoot);
@@ -339,6 +365,7 @@ fn move_of<'a>(alloc: Global, words: &Words<'a>) -> Result<Task<'a>, WrongCall<'
         made: words.has("--moved"),
         into: directory.is_some(),
         excluded: words.values(alloc, "--exclude")?,
+        site_root: words.value("--site-root")?,
         write: words.has("--write"),
         json: words.has("--json"),
         verbose: words.has("--verbose"),
@@ -421,16 +448,33 @@ fn check_of<'a>(alloc: Global, words: &Words<'a>) -> Result<Task<'a>, WrongCall<
     Ok(Task::Check {
         root: words.only_root()?,
         excluded: words.values(alloc, "--exclude")?,
+        fragments: words.has("--fragments"),
+        pages_as: pages_as_of(words)?,
+        site_root: words.value("--site-root")?,
         json: words.has("--json"),
         verbose: words.has("--verbose"),
     })
 }
 
+// The form in which a site shows its pages.
+fn pages_as_of<'a>(words: &Words<'a>) -> Result<Option<PagesAs>, WrongCall<'a>> {
+    let Some(word) = words.value("--pages-as")? else {
+        return Ok(None);
+    };
+    match PagesAs::named(word) {
+        Some(form) => Ok(Some(form)),
+        None => Err(WrongCall::NoForm(word)),
+    }
+}
+
 // The call that ends a run.
 fn end_of<'a>(direction: Direction, words: &Words<'a>) -> Result<Task<'a>, WrongCall<'a>> {
+    words.need_none("--fragments")?;
+    words.need_none("--pages-as")?;
     words.need_none("--any-name")?;
     words.need_none("--into")?;
     words.need_none("--exclude")?;
+    words.need_none("--site-root")?;
     words.need_none("--moved")?;
     words.need_none("--moves")?;
     words.need_none("--quiet-mentions")?;

@@ -1,177 +1,288 @@
 //! Finds the links of pages that lead to nothing.
-use crate::position::{Position, Positions};
+use crate::checked::{Checked, DeadLink, WhyDead, order};
+use crate::fragments::{FragmentLink, dead_fragments, fragment_link, lone_fragment};
+use crate::pages_as::{PagesAs, ShownPage, ends_in_dots, shown_page};
+use crate::position::Positions;
 use crate::presence::{Presence, presence_at};
+use crate::site_root::file_of;
 use crate::tree::{EntryKind, Page, Tree};
 use relative_path::RelativePath;
-use relative_path_links::{Target, targets};
+use relative_path_links::{SiteRoot, Target, targets};
 use relmove_store::{RunFault, Store};
 use std::alloc::{AllocError, Global};
 use std::io::ErrorKind;
-use target_paths::{TargetReading, path_of_target};
+use target_paths::TargetReading;
 
-/// Why a link is dead.
-#[derive(Clone, Copy, Debug, PartialEq, Eq)]
-pub enum WhyDead {
-    /// It leads to a path below the root, and nothing is there.
-    Missing,
-    /// It leads above the root.
-    AboveRoot,
-    /// What is there has a name in another case, or in another form of Unicode. The file system takes one for the other.
-    OtherSpelling,
-}
-
-impl WhyDead {
-    /// Why, in words.
-    pub fn words(self) -> &'static str {
-        match self {
-            WhyDead::Missing => "nothing is there",
-            WhyDead::AboveRoot => "it leads above the root",
-            WhyDead::OtherSpelling => "the name there has another case or form",
-        }
-    }
-}
-
-/// A link that is dead.
-#[derive(Debug, PartialEq, Eq, Drop)]
-pub struct DeadLink {
-    /// The path of its page from the root.
-    pub page: String,
-    /// Where its target begins in the page.
-    pub position: Position,
-    /// Its target, as it is written.
-    pub target: String,
-    /// Why it is dead.
-    pub why: WhyDead,
-}
-
-/// The links of pages, as they were checked.
-#[derive(Debug, PartialEq, Eq, Drop)]
-pub struct Checked {
-    /// How many pages were read.
-    pub pages: usize,
-    /// How many relative links they have.
-    pub links: usize,
-    /// How many of these have a meaning that isn't known.
-    pub unknown: usize,
-    /// The links that lead to nothing below the root, or above it.
-    pub dead: Vec<DeadLink>,
+/// What is checked of the links of pages, and how.
+#[derive(Clone, Copy)]
+pub struct LinkOptions<'a> {
+    /// The root of the site, from which links lead that begin with a slash.
+    pub root: &'a SiteRoot,
+    /// How the site shows its pages, if links use these names.
+    pub pages_as: Option<PagesAs>,
+    /// Whether the fragments of links that lead to pages of the tree are checked.
+    pub fragments: bool,
 }
 
 /// Returns the relative links of the pages of a tree that lead to nothing below the root, or above it. So does
-/// [`check_links`], which counts links too.
+/// [`check_links`], which counts links too, and has options.
 pub fn dead_links_of<S: Store>(store: &mut S, tree: &Tree) -> Result<Vec<DeadLink>, RunFault> {
-    Ok(check_links(store, tree)?.dead)
+    let root = SiteRoot::unknown();
+    let options = LinkOptions {
+        root: &root,
+        pages_as: None,
+        fragments: false,
+    };
+    Ok(check_links(store, tree, options)?.dead)
 }
 
-/// Checks the relative links of the pages of a tree.
+/// Checks the relative links of the pages of a tree, and those that lead from the site's root.
 ///
 /// What isn't in the tree is asked for: files in directories whose names begin with a dot, and what symbolic links lead
-/// to. Queries and fragments have no influence.
-pub fn check_links<S: Store>(store: &mut S, tree: &Tree) -> Result<Checked, RunFault> {
-    let mut checked = Checked {
+/// to. A link to nothing leads to a page if the site shows the page under this name. Queries have no influence, and fragments
+/// only if they are checked.
+///
+/// With fragments a target that is a fragment alone counts as a link too. The names in a page are those that
+/// `markdown_anchors` returns. Each page to which a link with a fragment leads is searched once more, and the names of one
+/// page at a time are kept.
+pub fn check_links<S: Store>(
+    store: &mut S,
+    tree: &Tree,
+    options: LinkOptions<'_>,
+) -> Result<Checked, RunFault> {
+    let alloc = store.alloc();
+    let asked = if options.fragments {
+        Some(Vec::new(alloc))
+    } else {
+        None
+    };
+    let Checking { mut checked, asked } = check_pages(store, tree, options, asked)?;
+    if let Some(asked) = asked {
+        for link in dead_fragments(alloc, tree, asked)? {
+            checked.dead.push(link)?;
+        }
+        checked.dead.sort_by(order)?;
+    }
+    Ok(checked)
+}
+
+// What was checked so far.
+#[derive(Drop)]
+struct Checking {
+    checked: Checked,
+    // The links with a fragment that lead to pages, if they are asked for.
+    asked: Option<Vec<FragmentLink>>,
+}
+
+// Checks the links of the pages of a tree but for their fragments.
+fn check_pages<S: Store>(
+    store: &mut S,
+    tree: &Tree,
+    options: LinkOptions<'_>,
+    asked: Option<Vec<FragmentLink>>,
+) -> Result<Checking, RunFault> {
+    let checked = Checked {
         pages: tree.pages.len(),
         links: 0,
         unknown: 0,
         dead: Vec::new(store.alloc()),
     };
-    for page in &tree.pages {
-        check_page(store, tree, page, &mut checked)?;
+    let mut checking = Checking { checked, asked };
+    for (number, page) in tree.pages.iter().enumerate() {
+        check_page(store, tree, options, (number, page), &mut checking)?;
     }
-    Ok(checked)
+    Ok(checking)
 }
 
-// Checks the links of a page.
+// Checks the links of the page with this number.
 fn check_page<S: Store>(
     store: &mut S,
     tree: &Tree,
-    page: &Page,
-    checked: &mut Checked,
+    options: LinkOptions<'_>,
+    (number, page): (usize, &Page),
+    checking: &mut Checking,
 ) -> Result<(), RunFault> {
-    let found = targets(store.alloc(), page.text.as_str())?;
+    let alloc = store.alloc();
+    let found = targets(alloc, page.text.as_str())?;
     let mut positions = Positions::new(page.text.as_str());
     for target in &found {
-        match reading_of(store.alloc(), page, *target)? {
+        let Some(written) = page.text.get(target.start..target.end) else {
+            continue;
+        };
+        match options.root.read_target(alloc, target.syntax, written)? {
             TargetReading::Path { path, .. } => {
-                checked.links = checked.links.saturating_add(1);
-                let path = path.as_str();
-                if let Some(link) = dead_link(store, tree, page, (*target, path), &mut positions)? {
-                    checked.dead.push(link)?;
-                }
+                checking.count_link();
+                let link = WrittenLink {
+                    number,
+                    page,
+                    target: *target,
+                    written,
+                    path: path.as_str(),
+                };
+                check_link(store, tree, options, link, &mut positions, checking)?;
             }
             TargetReading::Unknown(_) => {
-                checked.links = checked.links.saturating_add(1);
-                checked.unknown = checked.unknown.saturating_add(1);
+                checking.count_link();
+                checking.checked.unknown = checking.checked.unknown.saturating_add(1);
             }
-            TargetReading::NotRelative => {}
+            TargetReading::NotRelative => checking.ask_alone(alloc, tree, (number, *target))?,
         }
     }
     Ok(())
 }
 
-// What a target of a page means.
-fn reading_of(alloc: Global, page: &Page, target: Target) -> Result<TargetReading, AllocError> {
-    match page.text.get(target.start..target.end) {
-        Some(written) => path_of_target(alloc, target.syntax, written),
-        None => Ok(TargetReading::NotRelative),
+impl Checking {
+    // Counts a link.
+    fn count_link(&mut self) {
+        self.checked.links = self.checked.links.saturating_add(1);
+    }
+
+    // Adds the link of a target of the page with this number, if it has a fragment and leads to the page at a path.
+    fn ask(
+        &mut self,
+        tree: &Tree,
+        (number, target): (usize, Target),
+        file: &str,
+    ) -> Result<(), AllocError> {
+        let Some(asked) = &mut self.asked else {
+            return Ok(());
+        };
+        if let Some(link) = fragment_link(tree, (number, target), file) {
+            asked.push(link)?;
+        }
+        Ok(())
+    }
+
+    // Adds the link of a target of the page with this number, if the target is a fragment alone.
+    fn ask_alone(
+        &mut self,
+        alloc: Global,
+        tree: &Tree,
+        (number, target): (usize, Target),
+    ) -> Result<(), AllocError> {
+        let Some(asked) = &mut self.asked else {
+            return Ok(());
+        };
+        if let Some(link) = lone_fragment(alloc, tree, (number, target))? {
+            asked.push(link)?;
+            self.count_link();
+        }
+        Ok(())
+    }
+
+    // Adds a link that is dead.
+    fn add_dead(
+        &mut self,
+        alloc: Global,
+        link: WrittenLink<'_>,
+        why: WhyDead,
+        positions: &mut Positions<'_>,
+    ) -> Result<(), AllocError> {
+        if let Some(position) = positions.at(link.target.start) {
+            self.checked.dead.push(DeadLink {
+                page: String::from_str(alloc, link.page.path.as_str())?,
+                position,
+                target: String::from_str(alloc, link.written)?,
+                why,
+            })?;
+        }
+        Ok(())
     }
 }
 
-// The link of a target with this path, if it is dead.
-fn dead_link<S: Store>(
+// A link of a page: the page and its number, the target, its text, and the path that this spells.
+#[derive(Clone, Copy)]
+struct WrittenLink<'a> {
+    number: usize,
+    page: &'a Page,
+    target: Target,
+    written: &'a str,
+    path: &'a str,
+}
+
+// Checks a link: it is dead, or its fragment is asked for.
+fn check_link<S: Store>(
     store: &mut S,
     tree: &Tree,
-    page: &Page,
-    (target, path): (Target, &str),
+    options: LinkOptions<'_>,
+    link: WrittenLink<'_>,
     positions: &mut Positions<'_>,
-) -> Result<Option<DeadLink>, RunFault> {
+    checking: &mut Checking,
+) -> Result<(), RunFault> {
     let alloc = store.alloc();
-    let Some(written) = page.text.get(target.start..target.end) else {
-        return Ok(None);
+    let file = file_of(alloc, options.root, (link.page, link.written), link.path)?;
+    let file = file.as_relative_path();
+    let place = (link.number, link.target);
+    let Some(fault) = fault_at(store, tree, file, link.path)? else {
+        checking.ask(tree, place, file.as_str())?;
+        return Ok(());
     };
-    let Some(why) = why_dead(store, tree, page.path.as_str(), path)? else {
-        return Ok(None);
-    };
-    let Some(position) = positions.at(target.start) else {
-        return Ok(None);
-    };
-    Ok(Some(DeadLink {
-        page: String::from_str(alloc, page.path.as_str())?,
-        position,
-        target: String::from_str(alloc, written)?,
-        why,
-    }))
+    match page_shown_for(alloc, tree, fault, file, link.path)? {
+        Some(shown) if options.pages_as == Some(shown.form) => {
+            checking.ask(tree, place, shown.page.as_str())?;
+        }
+        shown => checking.add_dead(alloc, link, fault.with_page(shown), positions)?,
+    }
+    Ok(())
 }
 
-// Why a link with this path is dead, if it is.
-fn why_dead<S: Store>(
+// What is wrong with a path to which a link leads.
+#[derive(Clone, Copy)]
+enum Fault {
+    Missing,
+    AboveRoot,
+    OtherSpelling,
+}
+
+impl Fault {
+    // Why a link is dead that has this fault, where the page is there.
+    fn with_page(self, shown: Option<ShownPage>) -> WhyDead {
+        match self {
+            Fault::Missing => WhyDead::Missing {
+                page: shown.map(|shown| shown.page),
+            },
+            Fault::AboveRoot => WhyDead::AboveRoot,
+            Fault::OtherSpelling => WhyDead::OtherSpelling,
+        }
+    }
+}
+
+// The page that a site shows at a path where nothing is.
+fn page_shown_for(
+    alloc: Global,
+    tree: &Tree,
+    fault: Fault,
+    file: RelativePath<'_>,
+    path: &str,
+) -> Result<Option<ShownPage>, AllocError> {
+    match fault {
+        Fault::Missing => shown_page(alloc, tree, file.as_str(), path),
+        Fault::AboveRoot | Fault::OtherSpelling => Ok(None),
+    }
+}
+
+// What is wrong with the path to a file, which a link with this path leads to, if anything is.
+fn fault_at<S: Store>(
     store: &mut S,
     tree: &Tree,
-    page: &str,
+    file: RelativePath<'_>,
     path: &str,
-) -> Result<Option<WhyDead>, RunFault> {
-    let directory = RelativePath::new(page)
-        .parent()
-        .unwrap_or(RelativePath::new(""));
-    let file = directory.join_normalized(store.alloc(), RelativePath::new(path))?;
-    if file.as_relative_path().climb() > 0 {
-        return Ok(Some(WhyDead::AboveRoot));
+) -> Result<Option<Fault>, AllocError> {
+    if file.climb() > 0 {
+        return Ok(Some(Fault::AboveRoot));
     }
-    let file = file.as_relative_path().as_str();
+    let file = file.as_str();
     match presence_at(tree, file) {
         Presence::There => Ok(missing_unless(!is_of_directory(path) || is_no_file(tree, file))),
         Presence::Unknown => Ok(missing_unless(leads_somewhere(store, file)?)),
-        Presence::Absent if leads_somewhere(store, file)? => Ok(Some(WhyDead::OtherSpelling)),
-        Presence::Absent => Ok(Some(WhyDead::Missing)),
+        Presence::Absent if leads_somewhere(store, file)? => Ok(Some(Fault::OtherSpelling)),
+        Presence::Absent => Ok(Some(Fault::Missing)),
     }
 }
 
-// Why a link is dead, if nothing is where it leads.
-fn missing_unless(is_there: bool) -> Option<WhyDead> {
-    if is_there {
-        None
-    } else {
-        Some(WhyDead::Missing)
-    }
+// The fault of a path, if nothing is there.
+fn missing_unless(is_there: bool) -> Option<Fault> {
+    if is_there { None } else { Some(Fault::Missing) }
 }
 
 // Whether no file is at a path.
@@ -184,7 +295,7 @@ fn is_no_file(tree: &Tree, path: &str) -> bool {
 
 // Whether a path can only be a directory's: as part of a URL it is read with a slash at its end.
 fn is_of_directory(path: &str) -> bool {
-    path.ends_with('/') || path.ends_with("/.") || path.ends_with("/..")
+    path.ends_with('/') || ends_in_dots(path)
 }
 
 /// Whether something is at a path, where symbolic links are followed. What can't be looked up isn't there, so the only fault

@@ -5,24 +5,26 @@
 //!
 //! ```text
 //! what is in the pages    dead_links  mentions
-//! the search of a text    search
+//! parts of these          fragments  search
 //! what it knows           moved_names  targets  places
 //! what moves, and whence  moving_tree  bases  words
-//! what is at a path       presence  seen
+//! what is at a path       presence  seen  site_root
+//! what a check finds      checked  pages_as
 //! what is below the root  tree
 //! what all share          position  extensions
 //! ```
 #![tactic(auto)]
 
-pub use self::dead_links::{
-    Checked, DeadLink, WhyDead, check_links, dead_links_of, leads_somewhere,
-};
+pub use self::checked::{Checked, DeadLink, WhyDead};
+pub use self::dead_links::{LinkOptions, check_links, dead_links_of, leads_somewhere};
 pub use self::mentions::{SearchOptions, mentions_of};
 pub use self::moving_tree::shown_path;
+pub use self::pages_as::PagesAs;
 pub use self::places::{MOST_PLACES, MentionPlace, MentionPlaces};
 pub use self::position::{Position, Positions, position_after};
 pub use self::presence::{Presence, presence_at};
 pub use self::seen::{Seen, find, known_answer, seen_by_system};
+pub use self::site_root::site_root_at;
 pub use self::tree::{
     EntryKind, LONGEST_PAGE, Page, Tree, Unread, cannot_read, has_path, has_reserved_name,
     has_unread_name, is_at_or_below, is_directory, is_directory_entry, is_read_directory,
@@ -30,16 +32,20 @@ pub use self::tree::{
 };
 
 mod bases;
+mod checked;
 mod dead_links;
 mod extensions;
+mod fragments;
 mod mentions;
 mod moved_names;
 mod moving_tree;
+mod pages_as;
 mod places;
 mod position;
 mod presence;
 mod search;
 mod seen;
+mod site_root;
 mod targets;
 mod tree;
 mod words;

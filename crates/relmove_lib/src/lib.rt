@@ -9,8 +9,8 @@ pub use self::progress::{Progress, StoreWithProgress, WithProgress};
 pub use relmove_arguments::{Effect, Task, WrongCall, WrongList, moves_of_list, task_of};
 pub use relmove_findings::{LeftLink, Loss, LostSymlink, Moving, WhyLeft, WhyRefused};
 pub use relmove_folder::{
-    Checked, DeadLink, EntryKind, LONGEST_PAGE, Page, Position, Tree, Unread, WhyDead, check_links,
-    dead_links_of, is_directory, position_after, read_tree,
+    Checked, DeadLink, EntryKind, LONGEST_PAGE, LinkOptions, Page, PagesAs, Position, Tree, Unread,
+    WhyDead, check_links, dead_links_of, is_directory, position_after, read_tree,
 };
 pub use relmove_moving::moving_of;
 pub use relmove_plan::NameRule;

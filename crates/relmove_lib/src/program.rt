@@ -1,11 +1,11 @@
 //! A whole call of the program: its arguments, what it does, what it prints, its status.
-use relative_path_links::MovedSitePage;
+use relative_path_links::{MovedSitePage, SiteRoot};
 use relmove_actions::Actions;
 use relmove_arguments::{Effect, Task, moves_of_list, task_of};
 use relmove_findings::{Moving, WhyRefused};
 use relmove_folder::{
-    Checked, MentionPlaces, Page, SearchOptions, Tree, Unread, check_links, has_reserved_name,
-    mentions_of, read_tree,
+    Checked, LinkOptions, MentionPlaces, Page, PagesAs, SearchOptions, Tree, Unread, check_links,
+    has_reserved_name, mentions_of, read_tree, site_root_at,
 };
 use relmove_moved::{MadeMoves, StoreBefore, keep_dead_targets};
 use relmove_moving::{NewKind, moving_of, need_writable, whole_moves};
@@ -92,11 +92,17 @@ fn obey<R: Machine, I: Read, O: Write, E: Write>(
         Task::Check {
             root,
             excluded,
+            fragments,
+            pages_as,
+            site_root,
             json,
             verbose,
         } => {
             let options = CheckOptions {
                 excluded: &excluded,
+                fragments,
+                pages_as,
+                site_root,
                 json,
                 verbose,
             };
@@ -114,6 +120,7 @@ fn obey<R: Machine, I: Read, O: Write, E: Write>(
             made,
             into,
             excluded,
+            site_root,
             write,
             json,
             verbose,
@@ -124,6 +131,7 @@ fn obey<R: Machine, I: Read, O: Write, E: Write>(
                 kind: new_kind(into, made),
                 made,
                 excluded: &excluded,
+                site_root,
                 write,
                 json,
                 verbose,
@@ -148,6 +156,9 @@ fn new_kind(into: bool, made: bool) -> NewKind {
 #[derive(Clone, Copy)]
 struct CheckOptions<'a> {
     excluded: &'a [&'a str],
+    fragments: bool,
+    pages_as: Option<PagesAs>,
+    site_root: Option<&'a str>,
     json: bool,
     verbose: bool,
 }
@@ -158,6 +169,7 @@ struct MoveOptions<'a> {
     kind: NewKind,
     made: bool,
     excluded: &'a [&'a str],
+    site_root: Option<&'a str>,
     write: bool,
     json: bool,
     verbose: bool,
@@ -281,7 +293,7 @@ fn texts_of<'a>(
     Ok(texts)
 }
 
-// Why a call that moves files ends before its end.
+// Why a call ends before its end.
 #[derive(Drop)]
 enum CallEnd {
     // A fault, of which nothing is printed yet.
@@ -525,7 +537,8 @@ fn plan<'a, 'm, S: Store, O: Write, E: Write>(
     out: &mut O,
     errors: &mut E,
 ) -> Result<(Moving<'a, 'm>, Counts, Status), CallEnd> {
-    let mut moving = match moving_of(store, tree, moves, options.rule) {
+    let root = need_site_root(store, tree, options.site_root, errors)?;
+    let mut moving = match moving_of(store, tree, &root, moves, options.rule) {
         Ok(moving) => moving,
         Err(why) => return Err(refuse_moves(store, tree, moves, &why, errors)),
     };
@@ -534,6 +547,26 @@ fn plan<'a, 'm, S: Store, O: Write, E: Write>(
     }
     let (counts, status) = report(store, tree, moves, &moving, options, out, errors)?;
     Ok((moving, counts, status))
+}
+
+// The root of the site, by its path from the root. Fails if no directory is there.
+fn need_site_root<S: Store, E: Write>(
+    store: &S,
+    tree: &Tree,
+    path: Option<&str>,
+    errors: &mut E,
+) -> Result<SiteRoot, CallEnd> {
+    match site_root_at(store.alloc(), tree, path)? {
+        Some(root) => Ok(root),
+        None => {
+            let (root, path) = (Printable(store.root()), Printable(path.unwrap_or("")));
+            let _ = writeln!(
+                errors,
+                "relmove: {root}: {path} after --site-root is no directory"
+            );
+            Err(CallEnd::Status(Status::Refused))
+        }
+    }
 }
 
 // Prints what moves do. Returns what is counted of it, and the status of a run that does all of it.
@@ -736,12 +769,13 @@ fn check<R: Machine, O: Write, E: Write>(
     out: &mut O,
     errors: &mut E,
 ) -> Status {
-    match find_dead_links(runtime, root, options.excluded, errors) {
+    match find_dead_links(runtime, root, options, errors) {
         Ok(checked) => {
             let outcome = print_links(runtime.alloc(), root, options, &checked, out);
             print_status(outcome, status_of_links(&checked), out)
         }
-        Err(fault) => refuse(root, &fault, errors),
+        Err(CallEnd::Status(status)) => status,
+        Err(CallEnd::RunFault(fault)) => refuse(root, &fault, errors),
     }
 }
 
@@ -758,14 +792,20 @@ fn status_of_links(checked: &Checked) -> Status {
 fn find_dead_links<R: Machine, E: Write>(
     runtime: &R,
     root: &str,
-    excluded: &[&str],
+    options: CheckOptions<'_>,
     errors: &mut E,
-) -> Result<Checked, RunFault> {
+) -> Result<Checked, CallEnd> {
     let mut store = runtime.store_at(root)?;
     let mut near = need_rest(&mut store)?;
-    let tree = read_whole(&mut store, excluded, &mut near, errors)?;
+    let tree = read_whole(&mut store, options.excluded, &mut near, errors)?;
     let _ = print_remarks(errors, root, &near);
-    check_links(&mut store, &tree)
+    let site_root = need_site_root(&store, &tree, options.site_root, errors)?;
+    let options = LinkOptions {
+        root: &site_root,
+        pages_as: options.pages_as,
+        fragments: options.fragments,
+    };
+    Ok(check_links(&mut store, &tree, options)?)
 }
 
 // Prints what isn't read, and what has a name of relmove's own beside none of these journals.

@@ -1,3 +1,4 @@
+mod FirstLemmas
 mod OldNamesLemmas
 mod SpansLemmas
 mod WrittenLemmas

@@ -1,17 +1,18 @@
 -- The names that a set of old paths has, and what it finds by them.
-use Rattle.std.proofs.Common.{◌≡◌, ◌⊎◌, ℕ, ◌<◌, Bool, true, false, List, [], ◌∷◌, ◌++◌, map, Option, Some, None, IsSome, unwrap_or, cond, inl, inr, refl, sym, ap, ◌∙◌, subst, true≢false, arith, append_assoc, codes, get_or, length, max, take, ◌+◌, ◌≤◌}
+use Rattle.std.proofs.Common.{◌≡◌, ◌⊎◌, ℕ, ◌<◌, Bool, true, false, List, [], ◌∷◌, ◌++◌, map, Option, Some, None, IsSome, unwrap_or, cond, inl, inr, refl, sym, ap, ◌∙◌, subst, true≢false, arith, append_assoc, codes, get_or, length, max, not, ◌||◌, take, ◌+◌, ◌≤◌}
 use Rattle.std.specs.BTreeMap.{get_by_text}
 use Rattle.std.specs.BTreeSet.{contains_text}
 use Rattle.std.specs.List.{Contains}
 use Rattle.std.specs.Map.{update}
+use Rattle.std.specs.Option.{option_map}
 use Rattle.std.specs.Str.{bytes_eq}
 use Rattle.std.proofs.lemmas.List.{flat_map_more, length-map, map-append, map_more, take_all}
 use Rattle.std.proofs.Math.ListN.{get_or-map}
 use Rattle.std.proofs.lemmas.List.Sums.{fold-append}
-use Rattle.std.proofs.lemmas.List.Elements.{Contains-append_left, Contains-append_right, Contains-append_cases, Contains-get_or, Contains-push, Contains-push_cases}
+use Rattle.std.proofs.lemmas.List.Elements.{Contains-append_left, Contains-append_right, Contains-get_or, Contains-push_cases}
 use Rattle.std.proofs.lemmas.Option.{same_Some}
 use Rattle.std.proofs.lemmas.Slice.Eq.{bytes_eq-Decides}
-use Rattle.relative_path.specs.Steps.{Step, classed, components, dot, name as named}
+use Rattle.relative_path.specs.Steps.{Step, classed, components, cur, dot, name as named, step_text, up}
 use Rattle.relative_path.specs.Editing.{kept}
 use Rattle.relative_path.specs.Naming.{file_name_of, stem_of}
 use Rattle.relative_path.specs.Walk.{IsSame}
@@ -22,10 +23,12 @@ use Rattle.relative_path.proofs.ForCallers.{IsSame-append_left, IsSame-last_name
 use Rattle.relative_path_places.proofs.ForCallers.{IsNormalTextOf-same}
 use Rattle.relative_path_places.specs.Views.{view_text}
 use Rattle.relative_path_places.specs.declared.normal_view.NormalView.{NormalView}
-use Rattle.relmove_mentions.specs.Names.{directory_names, index_names, is_index_page, is_page, most_others, names_of, page_names}
+use Rattle.relmove_mentions.proofs.FirstLemmas.{IsFirst-Contains, IsFirst-append, IsFirst-append_cases, IsFirst-holds, IsFirst-push, first, first_or_rest, rest}
+use Rattle.relmove_mentions.specs.First.{IsFirst}
+use Rattle.relmove_mentions.specs.Names.{bare_names, directory_names, index_names, is_bare_name, is_index_page, is_page, most_others, names_of, page_names}
 use Rattle.relmove_mentions.specs.Spans.{others_in}
-use Rattle.relmove_mentions.specs.OldNames.{Lists, Has, Finds, with_names, all_names}
-use Rattle.relmove_mentions.specs.Written.{LeadsFrom, LeadsToPath, StandsFor}
+use Rattle.relmove_mentions.specs.OldNames.{Finds, Has, HasText, Lists, PathName, all_names, with_names}
+use Rattle.relmove_mentions.specs.Written.{LeadsFrom, LeadsToName, LeadsToPath, StandsFor}
 use Rattle.relmove_mentions.specs.declared.file_text.FileText.{FileText}
 use Rattle.relmove_mentions.specs.declared.old_names.OldNames.{OldNames}
 
@@ -50,35 +53,43 @@ last_name-normal steps front n text normal same =
     let is = last_name-name front n in
     last_name-IsNormalTextOf of (subst IsSome (sym is) refl) ∙ is
 
-pub Lists-insert : (names : List (List ℕ × List Step)) (path : NormalView) (name : List Step) (old new : OldNames)
+pub Lists-insert : (names : List PathName) (path : NormalView) (name : List Step) (old new : OldNames)
     (text : List ℕ) → IsNormalTextOf name text → IsInserted old new text path → HasLast old new text → Lists names old
     → Lists (names ++ (view_text path, name) ∷ []) new
 Lists-insert names path name old new text normal inserted has_last lists =
     record { only = only; each = each; last = last } where
-      more : List (List ℕ × List Step)
-      more = names ++ (view_text path, name) ∷ []
+      new_pair : PathName
+      new_pair = (view_text path, name)
+
+      more : List PathName
+      more = names ++ new_pair ∷ []
+
+      FirstWith : List ℕ → NormalView → Type 0
+      FirstWith other p = (n : List Step) × IsFirst (HasText other) more (view_text p, n)
+
+      -- under a text for which the set has no path, no name came before
+      none_before : get_by_text old.by_text text ≡ None → (pair : PathName) → Contains names pair → ¬ HasText text pair
+      none_before none (o, n) has of = true≢false (sym (subst IsSome none (lists.each o n text has of)))
 
       here : (had : Option NormalView) (p : NormalView) → get_by_text old.by_text text ≡ had → Some (unwrap_or had path) ≡ Some p
-          → (n : List Step) × Contains more (view_text p, n) × IsNormalTextOf n text
+          → FirstWith text p
       here None p none is =
-          subst (λ q. (n : List Step) × Contains more (view_text q, n) × IsNormalTextOf n text) (same_Some path p is)
-          (name, Contains-push names (view_text path, name), normal)
+          subst (FirstWith text) (same_Some path p is)
+          (name, IsFirst-push (HasText text) names new_pair (none_before none) normal)
       here (Some q) p had is =
-          let (n, has, of) = lists.only text p (had ∙ is) in
-          (n, Contains-append_left names _ (view_text p, n) has, of)
+          let (n, first_with) = lists.only text p (had ∙ is) in
+          (n, IsFirst-append (HasText text) names (new_pair ∷ []) (view_text p, n) first_with)
 
-      only : (other : List ℕ) (p : NormalView) → get_by_text new.by_text other ≡ Some p
-          → (n : List Step) × Contains more (view_text p, n) × IsNormalTextOf n other
+      only : (other : List ℕ) (p : NormalView) → get_by_text new.by_text other ≡ Some p → FirstWith other p
       only other p is = tell (bytes_eq text other) (bytes_eq-Decides text other) (sym (inserted other) ∙ is) where
         tell : (b : Bool) → ((b ≡ true → text ≡ other) × (text ≡ other → b ≡ true))
             → cond b (Some (unwrap_or (get_by_text old.by_text text) path)) (get_by_text old.by_text other) ≡ Some p
-            → (n : List Step) × Contains more (view_text p, n) × IsNormalTextOf n other
+            → FirstWith other p
         tell true (same, _) is =
-            subst (λ t. (n : List Step) × Contains more (view_text p, n) × IsNormalTextOf n t) (same refl)
-            (here (get_by_text old.by_text text) p refl is)
+            subst (λ t. FirstWith t p) (same refl) (here (get_by_text old.by_text text) p refl is)
         tell false _ is =
-            let (n, has, of) = lists.only other p is in
-            (n, Contains-append_left names _ (view_text p, n) has, of)
+            let (n, first_with) = lists.only other p is in
+            (n, IsFirst-append (HasText other) names (new_pair ∷ []) (view_text p, n) first_with)
 
       kept : (other : List ℕ) → IsSome (get_by_text old.by_text other) → IsSome (get_by_text new.by_text other)
       kept other some = rw (inserted other) (tell (bytes_eq text other)) where
@@ -115,30 +126,6 @@ Lists-insert names path name old new text normal inserted has_last lists =
 
 -- ---- each name of each path
 
--- a path and a name
-abbrev pub PathName : Type 0
-PathName = List ℕ × List Step
-
--- an element of a list of one
-single : {X : Type 0} (x y : X) → Contains (x ∷ []) y → x ≡ y
-single x y has = elim (Contains-push_cases [] x y has) [
-  | inl (k, within, is) ↦ absurd (omega (arith, within))
-  | inr is ↦ is
-]
-
--- the first element, or another one
-first_or_rest : {X : Type 0} (x : X) (xs : List X) (y : X) → Contains (x ∷ xs) y → (x ≡ y) ⊎ Contains xs y
-first_or_rest x xs y has = elim (Contains-append_cases (x ∷ []) xs y has) [
-  | inl first ↦ inl (single x y first)
-  | inr rest ↦ inr rest
-]
-
-first : {X : Type 0} (x : X) (xs : List X) → Contains (x ∷ xs) x
-first x xs = Contains-append_left (x ∷ []) xs x (Contains-push [] x)
-
-rest : {X : Type 0} (x : X) (xs : List X) (y : X) → Contains xs y → Contains (x ∷ xs) y
-rest x xs y has = Contains-append_right (x ∷ []) xs y has
-
 Contains-with_names : (old : List ℕ) (names : List (List Step)) (pair : PathName) → Contains (with_names old names) pair
     → (old ≡ pair.0) × Contains names pair.1
 Contains-with_names old [] pair (k, within, is) = absurd (omega (arith, within))
@@ -162,19 +149,6 @@ with_names-Contains old (name ∷ names) n has = elim (first_or_rest name names 
   | inr later ↦ rest {X = PathName} (old, name) (with_names old names) (old, n) (with_names-Contains old names n later)
 ]
 
--- a name among those of all paths is one of its path
-Contains-all_names : (olds : List (List ℕ)) (pair : PathName) → Contains (all_names olds) pair
-    → Contains olds pair.0 × Contains (names_of pair.0) pair.1
-Contains-all_names [] pair (k, within, is) = absurd (omega (arith, within))
-Contains-all_names (old ∷ olds) pair has =
-    elim (Contains-append_cases (with_names old (names_of old)) (all_names olds) pair has) [
-      | inl here ↦
-          let (same, has) = Contains-with_names old (names_of old) pair here in
-          (subst (Contains (old ∷ olds)) same (first old olds), subst (λ x. Contains (names_of x) pair.1) same has)
-      | inr later ↦
-          let (has, is_name) = Contains-all_names olds pair later in (rest old olds pair.0 has, is_name)
-    ]
-
 all_names-Contains : (olds : List (List ℕ)) (o : List ℕ) (n : List Step) → Contains olds o → Contains (names_of o) n
     → Contains {X = PathName} (all_names olds) (o, n)
 all_names-Contains [] o n (k, within, is) is_name = absurd (omega (arith, within))
@@ -188,28 +162,88 @@ all_names-Contains (old ∷ olds) o n has is_name = elim (first_or_rest old olds
       (all_names-Contains olds o n later is_name)
 ]
 
+-- the normal text of components is that of the name to which they lead
+normal_of_name : (cs : List Step) (text old : List ℕ) → IsNormalTextOf cs text → (leads : LeadsToName cs old)
+    → IsNormalTextOf leads.name text
+normal_of_name cs text old normal leads = record {
+  normal_text = normal.normal_text;
+  same = IsSame-trans (IsSame-sym leads.same) normal.same;
+  only = λ other is_normal same. normal.only other is_normal (IsSame-trans leads.same same);
+}
+
+-- the first name with a text is one of the first path with such a name
+first_path : (olds : List (List ℕ)) (cs : List Step) (text : List ℕ) (pair : PathName) → IsNormalTextOf cs text
+    → IsFirst (HasText text) (all_names olds) pair → LeadsToPath olds cs pair.0
+first_path [] cs text pair normal is = absurd is
+first_path (old ∷ olds) cs text pair normal is =
+    elim (IsFirst-append_cases (HasText text) (with_names old (names_of old)) (all_names olds) pair is) [
+      | inl here ↦
+          let contains = IsFirst-Contains (HasText text) (with_names old (names_of old)) pair here in
+          let of : IsNormalTextOf pair.1 text = IsFirst-holds (HasText text) (with_names old (names_of old)) pair here in
+          let (same, has) = Contains-with_names old (names_of old) pair contains in
+          let leads : LeadsToName cs old =
+          record { name = pair.1; is_name = has; same = IsSame-trans normal.same (IsSame-sym of.same) } in
+          inl (leads, same)
+      | inr (none, later) ↦ inr (
+        (λ leads.
+            none (old, leads.name) (with_names-Contains old (names_of old) leads.name leads.is_name)
+            (normal_of_name cs text old normal leads)),
+        first_path olds cs text pair normal later,
+      )
+    ]
+
 -- ---- the names that are inserted together
 
+-- a stem that can be a name is one
+classed-name : (stem : List ℕ) → is_bare_name (Some stem) ≡ true → classed stem ≡ named stem
+classed-name stem bare = of (bytes_eq stem (step_text cur)) (bytes_eq stem (step_text up)) bare where
+  of : (a b : Bool) → not (a || b) ≡ true → cond a cur (cond b up (named stem)) ≡ named stem
+  of true b is = absurd (true≢false (sym is))
+  of false true is = absurd (true≢false (sym is))
+  of false false is = refl
+
+-- the stem of a page
+pub Lists-bare : (names : List PathName) (old : List ℕ) (directory bare : List Step) (file_name : Option (List ℕ))
+    (set : OldNames) → is_bare_name (option_map stem_of file_name) ≡ true
+    → ((n : List ℕ) → file_name ≡ Some n → bare ≡ directory ++ classed (stem_of n) ∷ [])
+    → Lists (names ++ (old, bare) ∷ []) set
+    → Lists (names ++ with_names old (bare_names directory (option_map stem_of file_name))) set
+Lists-bare names old directory bare None set stem is_bare lists = absurd (true≢false (sym stem))
+Lists-bare names old directory bare (Some n) set stem is_bare lists = of (is_bare_name (Some (stem_of n))) stem where
+  one : List (List Step)
+  one = (directory ++ named (stem_of n) ∷ []) ∷ []
+
+  listed : Lists (names ++ with_names old one) set
+  listed =
+      subst (λ c. Lists (names ++ with_names old ((directory ++ c ∷ []) ∷ [])) set) (classed-name (stem_of n) stem)
+      (subst (λ b. Lists (names ++ with_names old (b ∷ [])) set) (is_bare n refl) lists)
+
+  of : (b : Bool) → b ≡ true → Lists (names ++ with_names old (cond b one [])) set
+  of true is = listed
+  of false is = absurd (true≢false (sym is))
+
 -- the further names of a page
-pub Lists-page : (names : List PathName) (old : List ℕ) (directory html bare : List Step) (file_name : Option (List ℕ))
+pub Lists-page : (names : List PathName) (old : List ℕ) (directory html : List Step) (file_name : Option (List ℕ))
     (set : OldNames) → is_page file_name ≡ true
     → ((n : List ℕ) → file_name ≡ Some n → html ≡ directory ++ named (stem_of n ++ dot ∷ codes "html") ∷ [])
-    → ((n : List ℕ) → file_name ≡ Some n → bare ≡ directory ++ classed (stem_of n) ∷ [])
-    → Lists ((names ++ (old, html) ∷ []) ++ (old, bare) ∷ []) set
+    → Lists ((names ++ (old, html) ∷ []) ++ with_names old (bare_names directory (option_map stem_of file_name))) set
     → Lists (names ++ with_names old (page_names directory file_name)) set
-Lists-page names old directory html bare None set page is_html is_bare lists = absurd (true≢false (sym page))
-Lists-page names old directory html bare (Some n) set page is_html is_bare lists = of (is_page (Some n)) page where
-  pair : List (List Step)
-  pair = (directory ++ named (stem_of n ++ dot ∷ codes "html") ∷ []) ∷ (directory ++ classed (stem_of n) ∷ []) ∷ []
+Lists-page names old directory html None set page is_html lists = absurd (true≢false (sym page))
+Lists-page names old directory html (Some n) set page is_html lists = of (is_page (Some n)) page where
+  bare : List (List Step)
+  bare = bare_names directory (Some (stem_of n))
 
-  both : Lists (names ++ with_names old pair) set
-  both =
-      subst (λ h. Lists (names ++ with_names old (h ∷ (directory ++ classed (stem_of n) ∷ []) ∷ [])) set) (is_html n refl)
-      (subst (λ b. Lists (names ++ with_names old (html ∷ b ∷ [])) set) (is_bare n refl)
-      (subst (λ list. Lists list set) (append_assoc {A = PathName} names ((old, html) ∷ []) ((old, bare) ∷ [])) lists))
+  both : List (List Step)
+  both = (directory ++ named (stem_of n ++ dot ∷ codes "html") ∷ []) ∷ bare
 
-  of : (b : Bool) → b ≡ true → Lists (names ++ with_names old (cond b pair [])) set
-  of true is = both
+  listed : Lists (names ++ with_names old both) set
+  listed =
+      subst (λ h. Lists (names ++ with_names old (h ∷ bare)) set) (is_html n refl)
+      (subst (λ list. Lists list set)
+      (append_assoc {A = PathName} names ((old, html) ∷ []) (with_names old bare)) lists)
+
+  of : (b : Bool) → b ≡ true → Lists (names ++ with_names old (cond b both [])) set
+  of true is = listed
   of false is = absurd (true≢false (sym is))
 
 -- the further names of a page for which its directory can stand
@@ -294,24 +328,22 @@ Has-end olds i set end lists most = record {
 -- ---- a search
 
 pub Finds-get : (olds : List (List ℕ)) (set : OldNames) (cs : List Step) (text : List ℕ) (found : Option NormalView)
-    → Has olds set → IsNormalTextOf cs text → found ≡ get_by_text set.by_text text → Finds olds (LeadsToPath cs) found
+    → Has olds set → IsNormalTextOf cs text → found ≡ get_by_text set.by_text text → Finds olds (LeadsToPath olds cs) found
 Finds-get olds set cs text (Some path) has normal is =
-    let (name, listed, of) = has.lists.only text path (sym is) in
-    let (is_old, is_name) = Contains-all_names olds (view_text path, name) listed in
-    (is_old, record { name = name; is_name = is_name; same = IsSame-trans normal.same (IsSame-sym of.same) })
-Finds-get olds set cs text None has normal is = λ old is_old leads.
-    let of : IsNormalTextOf leads.name text = record {
-      normal_text = normal.normal_text;
-      same = IsSame-trans (IsSame-sym leads.same) normal.same;
-      only = λ other is_normal same. normal.only other is_normal (IsSame-trans leads.same same);
-    } in
+    let (name, is_first) = has.lists.only text path (sym is) in
+    let leads : LeadsToPath olds cs (view_text path) =
+    first_path olds cs text (view_text path, name) normal is_first in
+    (IsFirst-Contains (LeadsToName cs) olds (view_text path) leads, leads)
+Finds-get olds set cs text None has normal is = λ old is_old first_leads.
+    let leads : LeadsToName cs old = IsFirst-holds (LeadsToName cs) olds old first_leads in
     let listed = all_names-Contains olds old leads.name is_old leads.is_name in
+    let of = normal_of_name cs text old normal leads in
     absurd (true≢false (sym (subst IsSome (sym is) (has.lists.each old leads.name text listed of))))
 
 -- a text whose last name the set lacks stands for no old path
 pub StandsFor-no_last : (olds : List (List ℕ)) (set : OldNames) (file : FileText) (text n old : List ℕ) → Has olds set
     → Contains olds old → file_name_of text ≡ Some n → contains_text set.last_names n ≡ false
-    → StandsFor file text old → ⊥
+    → StandsFor olds file text old → ⊥
 StandsFor-no_last olds set file text n old has is_old is none stands = elim stands.leads [
   | inl (below, from) ↦ no from.directory from.leads
   | inr (some, from) ↦ no from.directory from.leads
@@ -319,8 +351,10 @@ StandsFor-no_last olds set file text n old has is_old is none stands = elim stan
   ends : IsSame (components text) (kept (components text) ++ named n ∷ [])
   ends = IsSame-last_name (components text) n is
 
-  no : (directory : List Step) → LeadsToPath (directory ++ components text) old → ⊥
-  no directory leads =
+  no : (directory : List Step) → LeadsToPath olds (directory ++ components text) old → ⊥
+  no directory first_leads =
+      let leads : LeadsToName (directory ++ components text) old =
+      IsFirst-holds (LeadsToName (directory ++ components text)) olds old first_leads in
       let same : IsSame ((directory ++ kept (components text)) ++ named n ∷ []) leads.name =
       IsSame-trans (IsSame-sym (subst (IsSame (directory ++ components text))
       (sym (append_assoc directory (kept (components text)) (named n ∷ [])))
@@ -331,16 +365,16 @@ StandsFor-no_last olds set file text n old has is_old is none stands = elim stan
 -- ---- a search from one directory after another
 
 -- from no directory a path leads
-pub LeadsFrom-nil : (cs : List Step) (old : List ℕ) → LeadsFrom [] cs old → ⊥
-LeadsFrom-nil cs old from = no from.is_one where
+pub LeadsFrom-nil : (olds : List (List ℕ)) (cs : List Step) (old : List ℕ) → LeadsFrom olds [] cs old → ⊥
+LeadsFrom-nil olds cs old from = no from.is_one where
   no : Contains {X = List Step} [] from.directory → ⊥
   no (k, within, is) = omega (arith, within)
 
 -- what it leads to from one of them, it leads to from them
-pub LeadsFrom-one : (directories : List RelativePath) (i : ℕ) (none : RelativePath) (cs : List Step) (old : List ℕ)
-    → i < length directories → LeadsToPath (path_components (get_or directories i none) ++ cs) old
-    → LeadsFrom (map path_components directories) cs old
-LeadsFrom-one directories i none cs old within leads = record {
+pub LeadsFrom-one : (olds : List (List ℕ)) (directories : List RelativePath) (i : ℕ) (none : RelativePath) (cs : List Step)
+    (old : List ℕ) → i < length directories → LeadsToPath olds (path_components (get_or directories i none) ++ cs) old
+    → LeadsFrom olds (map path_components directories) cs old
+LeadsFrom-one olds directories i none cs old within leads = record {
   directory = path_components (get_or directories i none);
   is_one =
       subst (Contains (map path_components directories)) (get_or-map path_components directories i none)
@@ -350,16 +384,16 @@ LeadsFrom-one directories i none cs old within leads = record {
 }
 
 -- what it leads to from these directories and the next one, it leads to from these or from that
-pub LeadsFrom-next : (directories : List RelativePath) (i : ℕ) (none : RelativePath) (cs : List Step) (old : List ℕ)
-    → i < length directories → LeadsFrom (map path_components (take (i + 1) directories)) cs old
-    → LeadsFrom (map path_components (take i directories)) cs old
-    ⊎ LeadsToPath (path_components (get_or directories i none) ++ cs) old
-LeadsFrom-next directories i none cs old within from =
+pub LeadsFrom-next : (olds : List (List ℕ)) (directories : List RelativePath) (i : ℕ) (none : RelativePath) (cs : List Step)
+    (old : List ℕ) → i < length directories → LeadsFrom olds (map path_components (take (i + 1) directories)) cs old
+    → LeadsFrom olds (map path_components (take i directories)) cs old
+    ⊎ LeadsToPath olds (path_components (get_or directories i none) ++ cs) old
+LeadsFrom-next olds directories i none cs old within from =
     elim (Contains-push_cases (map path_components (take i directories)) (path_components (get_or directories i none))
     from.directory
     (subst (λ list. Contains list from.directory) (map_more path_components directories i none within) from.is_one)) [
       | inl before ↦ inl (record { directory = from.directory; is_one = before; leads = from.leads })
-      | inr same ↦ inr (subst (λ d. LeadsToPath (d ++ cs) old) (sym same) from.leads)
+      | inr same ↦ inr (subst (λ d. LeadsToPath olds (d ++ cs) old) (sym same) from.leads)
     ]
 
 -- what is found for a property is found for one that holds of the same paths

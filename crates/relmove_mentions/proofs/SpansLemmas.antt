@@ -2,7 +2,7 @@
 use Rattle.std.proofs.Common.{◌≡◌, ℕ, zero, suc, cond, ◌+◌, ◌-◌, ◌<◌, ◌≤◌, Bool, true, false, not, ◌||◌, ◌&&◌, List, [], ◌∷◌, length, take, drop, get_or, refl, sym, ap, ◌∙◌, subst, arith, length-drop, drop-cons}
 use Rattle.std.specs.Prelude.{nat_le}
 use Rattle.std.specs.List.{list_all}
-use Rattle.std.proofs.lemmas.Bool.{le-leb, lt-leb}
+use Rattle.std.proofs.lemmas.Bool.{le-leb}
 use Rattle.std.proofs.lemmas.List.{get_or-drop, take-take}
 use Rattle.std.proofs.lemmas.List.Sums.{sum_by-take-le, sum_by_more}
 use Rattle.std.proofs.Math.ListN.{drop_of_length-le}
@@ -19,22 +19,26 @@ FollowFrom-less at less (span ∷ spans) le (start, order, follow) = (omega (ari
 pub FollowFrom-rest : (at : ℕ) (span : TextSpan) (spans : List TextSpan) → FollowFrom at (span ∷ spans) → FollowFrom 0 spans
 FollowFrom-rest at span spans (start, order, follow) = FollowFrom-less span.end 0 spans (omega arith) follow
 
+or_true : (b : Bool) → (b || true) ≡ true
+or_true true = refl
+or_true false = refl
+
 -- spans that end before each other
 pub is_apart-before : (span other : TextSpan) → span.end ≤ other.start → is_apart span other ≡ true
-is_apart-before span other le = ap (λ b. b || nat_le other.end span.start) (le-leb span.end other.start le)
+is_apart-before span other le =
+    ap (λ b. nat_le other.end other.start || (b || nat_le other.end span.start)) (le-leb span.end other.start le)
+    ∙ or_true (nat_le other.end other.start)
 
 pub is_apart-after : (span other : TextSpan) → other.end ≤ span.start → is_apart span other ≡ true
 is_apart-after span other le =
-    ap (λ b. nat_le span.end other.start || b) (le-leb other.end span.start le) ∙ or_true (nat_le span.end other.start)
-  where
-    or_true : (b : Bool) → (b || true) ≡ true
-    or_true true = refl
-    or_true false = refl
+    ap (λ b. nat_le other.end other.start || (nat_le span.end other.start || b)) (le-leb other.end span.start le)
+    ∙ ap (λ b. nat_le other.end other.start || b) (or_true (nat_le span.end other.start))
+    ∙ or_true (nat_le other.end other.start)
 
--- a span that has ended is apart from what begins later
-pub list_all-passed : (span first : TextSpan) (rest : List TextSpan) → first.end ≤ span.start
+-- a span that is apart from the first is apart from all exactly if it is from the rest
+pub list_all-passed : (span first : TextSpan) (rest : List TextSpan) → is_apart span first ≡ true
     → list_all (is_apart span) (first ∷ rest) ≡ list_all (is_apart span) rest
-list_all-passed span first rest le = ap (λ b. b && list_all (is_apart span) rest) (is_apart-after span first le)
+list_all-passed span first rest apart = ap (λ b. b && list_all (is_apart span) rest) apart
 
 -- a span that ends before all others is apart from them
 pub list_all-before : (span : TextSpan) (at : ℕ) (spans : List TextSpan) → span.end ≤ at → FollowFrom at spans
@@ -45,11 +49,9 @@ list_all-before span at (other ∷ spans) le (start, order, follow) =
     ∙ list_all-before span other.end spans (omega (arith, le, start, order)) follow
 
 -- a span that isn't apart from the first isn't apart from all
-pub list_all-first : (span first : TextSpan) (rest : List TextSpan) → first.start < span.end → span.start < first.end
+pub list_all-first : (span first : TextSpan) (rest : List TextSpan) → is_apart span first ≡ false
     → list_all (is_apart span) (first ∷ rest) ≡ false
-list_all-first span first rest starts ends =
-    ap (λ b. (b || nat_le first.end span.start) && list_all (is_apart span) rest) (lt-leb span.end first.start starts)
-    ∙ ap (λ b. b && list_all (is_apart span) rest) (lt-leb first.end span.start ends)
+list_all-first span first rest apart = ap (λ b. b && list_all (is_apart span) rest) apart
 
 -- ---- bytes that aren't path bytes
 
@@ -107,18 +109,19 @@ drop-next spans n none within =
     let next : suc n ≡ n + 1 = omega arith in
     drop-cons spans n none within ∙ ap (λ k. get_or spans n none ∷ drop k spans) next
 
--- a first one that has ended is passed
+-- a first one from which the span is apart is passed
 pub list_all-drop_passed : (span none : TextSpan) (spans : List TextSpan) (n : ℕ) → n < length spans
-    → (get_or spans n none).end ≤ span.start
+    → is_apart span (get_or spans n none) ≡ true
     → list_all (is_apart span) (drop (n + 1) spans) ≡ list_all (is_apart span) (drop n spans)
-list_all-drop_passed span none spans n within le =
+list_all-drop_passed span none spans n within apart =
     sym (ap (list_all (is_apart span)) (drop-next spans n none within)
-    ∙ list_all-passed span (get_or spans n none) (drop (n + 1) spans) le)
+    ∙ list_all-passed span (get_or spans n none) (drop (n + 1) spans) apart)
 
 pub ArePassed-next : (spans : List TextSpan) (n at : ℕ) (none : TextSpan) → n < length spans
     → (get_or spans n none).end ≤ at → ArePassed spans n at → ArePassed spans (n + 1) at
 ArePassed-next spans n at none within le passed = λ span later.
-    list_all-drop_passed span none spans n within (omega (arith, le, later)) ∙ passed span later
+    list_all-drop_passed span none spans n within
+    (is_apart-after span (get_or spans n none) (omega (arith, le, later))) ∙ passed span later
 
 -- if the span ends before the first of them, it is apart from all of them
 pub list_all-drop_before : (span none : TextSpan) (spans : List TextSpan) (n : ℕ) → n < length spans
@@ -132,11 +135,10 @@ list_all-drop_before span none spans n within le follow =
 
 -- if it isn't apart from the first of them, it isn't from all
 pub list_all-drop_first : (span none : TextSpan) (spans : List TextSpan) (n : ℕ) → n < length spans
-    → (get_or spans n none).start < span.end → span.start < (get_or spans n none).end
-    → list_all (is_apart span) (drop n spans) ≡ false
-list_all-drop_first span none spans n within starts ends =
+    → is_apart span (get_or spans n none) ≡ false → list_all (is_apart span) (drop n spans) ≡ false
+list_all-drop_first span none spans n within apart =
     ap (list_all (is_apart span)) (drop-next spans n none within)
-    ∙ list_all-first span (get_or spans n none) (drop (n + 1) spans) starts ends
+    ∙ list_all-first span (get_or spans n none) (drop (n + 1) spans) apart
 
 -- after all of them none is left
 pub list_all-drop_end : (span : TextSpan) (spans : List TextSpan) (n : ℕ) → length spans ≤ n

@@ -15,10 +15,10 @@ use Rattle.relmove_mentions.proofs.OldNamesLemmas.{Finds-map, Finds-second}
 -- a text that ends in a name stands for the path to which it leads
 pub Finds-text : (olds : List (List ℕ)) (file : FileText) (text : List ℕ) (found : Option NormalView) → IsUtf8 text
     → IsSome (file_name_of text)
-    → Finds olds (λ old. LeadsFromDirectory file text old ⊎ LeadsFromTop file text old) found
-    → Finds olds (StandsFor file text) found
+    → Finds olds (λ old. LeadsFromDirectory olds file text old ⊎ LeadsFromTop olds file text old) found
+    → Finds olds (StandsFor olds file text) found
 Finds-text olds file text found utf8 named finds =
-    Finds-map olds (λ old. LeadsFromDirectory file text old ⊎ LeadsFromTop file text old) (StandsFor file text) found
+    Finds-map olds (λ old. LeadsFromDirectory olds file text old ⊎ LeadsFromTop olds file text old) (StandsFor olds file text) found
     (λ old is_old leads. record { utf8 = utf8; named = named; leads = leads }) (λ old stands. stands.leads) finds
 
 -- bytes without a percent sign are decoded to themselves
@@ -34,8 +34,8 @@ percent_decode-plain (b ∷ bytes) none = of (b == percent_sign) refl none (λ r
 
 -- so if nothing is found for these bytes as they are, nothing is found
 pub Finds-plain : (olds : List (List ℕ)) (file : FileText) (bytes : List ℕ)
-    → list_any (λ b. b == percent_sign) bytes ≡ false → Finds olds (StandsFor file bytes) None
-    → Finds olds (IsWritten file bytes) None
+    → list_any (λ b. b == percent_sign) bytes ≡ false → Finds olds (StandsFor olds file bytes) None
+    → Finds olds (IsWritten olds file bytes) None
 Finds-plain olds file bytes none finds =
-    Finds-second olds (StandsFor file bytes) (StandsFor file (percent_decode bytes)) None finds
-    (subst (λ text. Finds olds (StandsFor file text) None) (sym (percent_decode-plain bytes none)) finds)
+    Finds-second olds (StandsFor olds file bytes) (StandsFor olds file (percent_decode bytes)) None finds
+    (subst (λ text. Finds olds (StandsFor olds file text) None) (sym (percent_decode-plain bytes none)) finds)

@@ -1,4 +1,5 @@
 pub mod Spans
+pub mod First
 pub mod Names
 pub mod Written
 pub mod OldNames

@@ -16,7 +16,7 @@ pub record IsMention (olds : List (List ℕ)) (file : FileText) (span : TextSpan
   pub bounded : IsBounded file.text.now span
   pub few : others_in (span_bytes file.text.now span) ≤ most_others olds
   pub unread : IsApartFrom file.read.now span
-  pub written : IsWritten file (span_bytes file.text.now span) old
+  pub written : IsWritten olds file (span_bytes file.text.now span) old
 
 -- the spans of mentions
 abbrev pub spans_of : List Mention → List TextSpan

@@ -1,10 +1,10 @@
 -- The names that a path has in a site.
-use Rattle.std.specs.Prelude.{ℕ, Bool, true, false, ◌||◌, ◌&&◌, List, [], ◌∷◌, ◌++◌, map, Option, Some, None, codes, if◌then◌else◌, max}
+use Rattle.std.specs.Prelude.{ℕ, Bool, true, false, not, ◌||◌, List, [], ◌∷◌, ◌++◌, map, Option, Some, None, codes, if◌then◌else◌, max}
 use Rattle.std.specs.Char.{to_ascii_lowercase}
 use Rattle.std.specs.List.{fold}
 use Rattle.std.specs.Option.{option_and_then}
 use Rattle.std.specs.Str.{bytes_eq}
-use Rattle.relative_path.specs.Steps.{Step, name, dot, classed, components}
+use Rattle.relative_path.specs.Steps.{Step, cur, up, name, dot, components, step_text}
 use Rattle.relative_path.specs.Editing.{kept}
 use Rattle.relative_path.specs.Naming.{file_name_of, stem_of, extension_of}
 use Rattle.relmove_mentions.specs.Spans.{others_in}
@@ -33,12 +33,22 @@ abbrev pub is_index_page : Option (List ℕ) → Bool
 is_index_page None = false
 is_index_page (Some n) = is_index_name n
 
+-- the stem of a file name can be a name: there is one, and it isn't `.` or `..`
+abbrev pub is_bare_name : Option (List ℕ) → Bool
+is_bare_name None = false
+is_bare_name (Some stem) = not (bytes_eq stem (step_text cur) || bytes_eq stem (step_text up))
+
+-- in a directory, the stem of a file name, if it can be a name
+abbrev pub bare_names : List Step → Option (List ℕ) → List (List Step)
+bare_names directory None = []
+bare_names directory (Some stem) = if is_bare_name (Some stem) then (directory ++ name stem ∷ []) ∷ [] else []
+
 -- in a directory, the further names of a file that is a page: with `.html`, and without an extension
 abbrev pub page_names : List Step → Option (List ℕ) → List (List Step)
 page_names directory None = []
 page_names directory (Some n) =
     if is_page (Some n)
-    then (directory ++ name (stem_of n ++ dot ∷ codes "html") ∷ []) ∷ (directory ++ classed (stem_of n) ∷ []) ∷ []
+    then (directory ++ name (stem_of n ++ dot ∷ codes "html") ∷ []) ∷ bare_names directory (Some (stem_of n))
     else []
 
 -- the directory, unless it is the top

@@ -8,22 +8,31 @@ use Rattle.relative_path.specs.Walk.{IsSame}
 use Rattle.relative_path.specs.Normalizing.{IsNormalTextOf}
 use Rattle.relative_path_places.specs.Views.{view_text}
 use Rattle.relative_path_places.specs.declared.normal_view.NormalView.{NormalView}
+use Rattle.relmove_mentions.specs.First.{IsFirst}
 use Rattle.relmove_mentions.specs.Names.{names_of, most_others}
 use Rattle.relmove_mentions.specs.declared.old_names.OldNames.{OldNames}
 
+-- a path, and one of its names
+abbrev pub PathName : Type 0
+PathName = List ℕ × List Step
+
+-- this is the normal text of the name
+abbrev pub HasText : List ℕ → PathName → Type 0
+HasText text pair = IsNormalTextOf pair.1 text
+
 -- a path with each of these names
-abbrev pub with_names : List ℕ → List (List Step) → List (List ℕ × List Step)
+abbrev pub with_names : List ℕ → List (List Step) → List PathName
 with_names old names = map (λ steps. (old, steps)) names
 
 -- each path with each of its names
-abbrev pub all_names : List (List ℕ) → List (List ℕ × List Step)
+abbrev pub all_names : List (List ℕ) → List PathName
 all_names olds = flat_map (λ old. with_names old (names_of old)) olds
 
--- under the normal text of a name the set has a path with this name, and under no other text a path; it has the
--- last name of each
-pub record Lists (names : List (List ℕ × List Step)) (set : OldNames) : Type 0 where
+-- under the normal text of a name the set has the first path with this name, and under no other text a path; it has
+-- the last name of each
+pub record Lists (names : List PathName) (set : OldNames) : Type 0 where
   pub only : (text : List ℕ) (path : NormalView) → get_by_text set.by_text text ≡ Some path
-      → (steps : List Step) × Contains names (view_text path, steps) × IsNormalTextOf steps text
+      → (steps : List Step) × IsFirst (HasText text) names (view_text path, steps)
   pub each : (old : List ℕ) (steps : List Step) (text : List ℕ) → Contains names (old, steps) → IsNormalTextOf steps text
       → IsSome (get_by_text set.by_text text)
   pub last : (old : List ℕ) (steps front : List Step) (n : List ℕ) → Contains names (old, steps)

@@ -40,11 +40,11 @@ pub record IsBounded (text : List ℕ) (span : TextSpan) : Type 0 where
 abbrev pub span_bytes : List ℕ → TextSpan → List ℕ
 span_bytes text span = take (span.end - span.start) (drop span.start text)
 
--- the spans have no byte in common
+-- the span has no byte of the other: that one is empty, or one of them ends before the other begins
 abbrev pub is_apart : TextSpan → TextSpan → Bool
-is_apart span other = nat_le span.end other.start || nat_le other.end span.start
+is_apart span other = nat_le other.end other.start || (nat_le span.end other.start || nat_le other.end span.start)
 
--- the span has no byte in common with any of the others
+-- the span has no byte of any of the others
 abbrev pub IsApartFrom : List TextSpan → TextSpan → Type 0
 IsApartFrom others span = IsTrue (list_all (is_apart span) others)
 

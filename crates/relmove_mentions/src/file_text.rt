@@ -19,6 +19,6 @@ pub struct FileText<'a> {
     pub tops: &'a [RelativePath<'a>],
     /// The bytes of the file.
     pub text: &'a [u8],
-    /// The spans of the text that the run has read as targets, in order and without overlap.
+    /// The spans of the text that the run has read as targets, in order and without overlap. A span can be empty.
     pub read: &'a [TextSpan],
 }

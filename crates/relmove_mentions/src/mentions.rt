@@ -31,7 +31,7 @@ ghost use Rattle.relmove_mentions.specs.declared.text_span.TextSpan.{TextSpan};
 
 use crate::file_text::FileText;
 use crate::old_names::OldNames;
-use crate::text_span::{TextSpan, is_bounded_after, is_bounded_before, is_path_byte};
+use crate::text_span::{TextSpan, is_apart, is_bounded_after, is_bounded_before, is_path_byte};
 use percent_encoding::percent_decode;
 use relative_path::RelativePath;
 use relative_path_places::NormalView;
@@ -49,13 +49,14 @@ pub struct Mention<'p> {
 impl<'p> OldNames<'p> {
     /// Returns where a file mentions an old path: in the order of the starts, and at one start in the order of the ends.
     ///
-    /// A mention is a span of the text that is a [name](OldNames::of) of the path, as it is or percent-encoded. The name
-    /// leads from a directory of the file, or from a top. From a top a name without a directory before it counts only
-    /// after a slash, and a path that ends in `.` or `..` is no name.
+    /// A mention is a span of the text that is a [name](OldNames::of) which stands for the path, as it is or
+    /// percent-encoded. The name leads from a directory of the file, or from a top. From a top a name without a directory
+    /// before it counts only after a slash, and a path that ends in `.` or `..` is no name.
     ///
     /// Right before and after a mention the text ends, or has a byte that isn't an ASCII letter or digit, `%`, `-`,
     /// `.`, `/`, `_` or above 127; after it can also be a full stop, and then such an end. A mention has at most as many
-    /// such bytes as an old path. What was read has no byte of a mention.
+    /// such bytes as an old path. What was read has no byte of a mention. An empty span has no byte, so a mention can go
+    /// on across it.
     ///
     /// Time is linear in the text, and grows with the square of that number. Allocates the list of mentions; for each
     /// span with a percent sign the decoded bytes; and for each that ends in the last name of a name, what
@@ -214,7 +215,7 @@ impl<'p> OldNames<'p> {
         bytes: &[u8],
     ) -> Result<Option<NormalView<'p>>, AllocError>
         ensures { IfOk result (λ found. (olds : List (List ℕ)) → Has olds self.now
-            → Finds olds (IsWritten file.entry bytes.now) found) }
+            → Finds olds (IsWritten olds file.entry bytes.now) found) }
     {
         if let Some(old) = self.find_text(alloc, file, bytes)? {
             return Ok(Some(old));
@@ -235,7 +236,7 @@ impl<'p> OldNames<'p> {
         text: &[u8],
     ) -> Result<Option<NormalView<'p>>, AllocError>
         ensures { IfOk result (λ found. (olds : List (List ℕ)) → Has olds self.now
-            → Finds olds (StandsFor file.entry text.now) found) }
+            → Finds olds (StandsFor olds file.entry text.now) found) }
     {
         let Ok(text) = str::from_utf8(text) else {
             return Ok(None);
@@ -261,7 +262,7 @@ impl<'p> OldNames<'p> {
         path: RelativePath<'_>,
     ) -> Result<Option<NormalView<'p>>, AllocError>
         ensures { IfOk result (λ found. (olds : List (List ℕ)) → Has olds self.now
-            → Finds olds (LeadsFromDirectory file.entry (path_text path.entry)) found) }
+            → Finds olds (LeadsFromDirectory olds file.entry (path_text path.entry)) found) }
     {
         if has_root(path) {
             return Ok(None);
@@ -277,7 +278,7 @@ impl<'p> OldNames<'p> {
         path: RelativePath<'_>,
     ) -> Result<Option<NormalView<'p>>, AllocError>
         ensures { IfOk result (λ found. (olds : List (List ℕ)) → Has olds self.now
-            → Finds olds (LeadsFromTop file.entry (path_text path.entry)) found) }
+            → Finds olds (LeadsFromTop olds file.entry (path_text path.entry)) found) }
     {
         if !has_directory(path) {
             return Ok(None);
@@ -293,7 +294,7 @@ impl<'p> OldNames<'p> {
         path: RelativePath<'_>,
     ) -> Result<Option<NormalView<'p>>, AllocError>
         ensures { IfOk result (λ found. (olds : List (List ℕ)) → Has olds self.now
-            → Finds olds (LeadsFrom (map path_components directories.now) (path_components path.entry)) found) }
+            → Finds olds (LeadsFrom olds (map path_components directories.now) (path_components path.entry)) found) }
     {
         for directory in directories {
             if let Some(old) = self.find_joined(alloc, *directory, path)? {
@@ -311,7 +312,7 @@ impl<'p> OldNames<'p> {
         path: RelativePath<'_>,
     ) -> Result<Option<NormalView<'p>>, AllocError>
         ensures { IfOk result (λ found. (olds : List (List ℕ)) → Has olds self.now
-            → Finds olds (LeadsToPath (path_components directory.entry ++ path_components path.entry)) found) }
+            → Finds olds (LeadsToPath olds (path_components directory.entry ++ path_components path.entry)) found) }
     {
         let place = directory.join_normalized(alloc, path)?;
         Ok(self.get(place.as_relative_path().as_str()))
@@ -377,7 +378,7 @@ fn is_unread(spans: &[TextSpan], passed: usize, span: TextSpan) -> bool
         if span.end <= other.start {
             return true;
         }
-        if span.start < other.end {
+        if !is_apart(span, other) {
             return false;
         }
         count += 1;

@@ -1,16 +1,19 @@
 //! The old paths of a run, by their names.
 ghost use Rattle.std.specs.Prelude.{◌≡◌, ◌++◌, ◌∷◌, [], ℕ, List, map, max, true, if◌then◌else◌, IfOk, OnOk, Some};
+ghost use Rattle.std.specs.Option.{option_map};
 ghost use Rattle.std.specs.BTreeMap.{get_by_text};
 ghost use Rattle.std.specs.BTreeSet.{contains_text};
 ghost use Rattle.std.specs.Str.{bytes_eq};
 ghost use Rattle.relative_path.specs.Editing.{kept};
-ghost use Rattle.relative_path.specs.Naming.{file_name_of};
+ghost use Rattle.relative_path.specs.Naming.{file_name_of, stem_of};
 ghost use Rattle.relative_path.specs.RelativePath.{path_components, path_text};
 ghost use Rattle.relative_path.specs.Steps.{Step, components};
 ghost use Rattle.relative_path_places.specs.Views.{view_text};
 ghost use Rattle.relmove_mentions.specs.Names.{
+  bare_names,
   directory_names,
   index_names,
+  is_bare_name,
   is_index_page,
   is_page,
   most_others,
@@ -45,11 +48,12 @@ pub struct OldNames<'p> {
 }
 
 impl<'p> OldNames<'p> {
-    /// Returns the names of old paths. If several paths have one name, the name stands for the first of them.
+    /// Returns the names of old paths. If several paths have one name, the name stands for the one that comes first in
+    /// `olds`. So does `docs` for one of `docs/README.md` and `docs/index.md`.
     ///
     /// A path has these names: itself; as a page, which has the extension `md` or `markdown` in any case, the path with
-    /// the extension `html`, and without an extension; and as `README.md`, `index.md` or `_index.md` its directory's
-    /// `index.html`, and its directory, unless that is the root.
+    /// the extension `html`, and without an extension, unless that leaves `.` or `..`; and as `README.md`, `index.md` or
+    /// `_index.md` its directory's `index.html`, and its directory, unless that is the root.
     ///
     /// Allocates a copy of each name and of its last name, and entries for those that are new. Fails only if an
     /// allocation fails.
@@ -108,6 +112,21 @@ impl<'p> OldNames<'p> {
         }
         let html = path.with_extension(alloc, "html")?;
         self.insert(alloc, html.as_relative_path(), old)?;
+        self.insert_bare_name(alloc, old)?;
+        Ok(())
+    }
+
+    // Inserts a path without its extension, if that leaves a name.
+    fn insert_bare_name(&mut self, alloc: Global, old: NormalView<'p>) -> Result<(), AllocError>
+        ensures lists { OnOk result ((names : List (List ℕ × List Step)) → Lists names self.old
+            → Lists (names ++ with_names (view_text old.entry) (bare_names (kept (components (view_text old.entry)))
+            (option_map stem_of (file_name_of (view_text old.entry))))) self.new) }
+        ensures most { self.new.most_others ≡ self.old.most_others }
+    {
+        let path = old.as_relative_path();
+        if !has_bare_name(path) {
+            return Ok(());
+        }
         let bare = path.with_extension(alloc, "")?;
         self.insert(alloc, bare.as_relative_path(), old)?;
         Ok(())
@@ -248,6 +267,16 @@ pub fn is_page(path: RelativePath<'_>) -> bool
         Some(extension) => {
             extension.eq_ignore_ascii_case("md") || extension.eq_ignore_ascii_case("markdown")
         }
+        None => false,
+    }
+}
+
+// Returns whether a path has a stem that can be a name.
+fn has_bare_name(path: RelativePath<'_>) -> bool
+    ensures { result ≡ is_bare_name (option_map stem_of (file_name_of (path_text path.entry))) }
+{
+    match path.file_stem() {
+        Some(stem) => !(stem == "." || stem == ".."),
         None => false,
     }
 }

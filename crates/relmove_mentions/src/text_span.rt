@@ -2,6 +2,7 @@
 ghost use Rattle.std.specs.Prelude.{◌≡◌, ◌≤◌, ◌↔◌, IsTrue, length};
 ghost use Rattle.relmove_mentions.specs.Spans.{
   FollowFrom,
+  is_apart,
   is_bounded_after,
   is_bounded_at,
   is_bounded_before,
@@ -44,6 +45,14 @@ pub fn are_spans_in_order(spans: &[TextSpan]) -> bool
         rest = others;
     }
     true
+}
+
+// Returns whether a span has no byte of another one.
+#[inline]
+pub(crate) fn is_apart(span: TextSpan, other: TextSpan) -> bool
+    ensures { result ≡ is_apart span other }
+{
+    other.end <= other.start || span.end <= other.start || other.end <= span.start
 }
 
 // Returns whether a path goes on with a byte.

@@ -5,10 +5,10 @@ use relative_path_moves::TreeMoves;
 use relmove_folder::{EntryKind, Tree, is_read_directory};
 use relmove_plan::Plan;
 use std::alloc::{AllocError, Global};
-use std::collections::BTreeSet;
+use std::collections::{BTreeMap, BTreeSet};
 
-/// Returns the directories of a tree that don't move and to which links of pages lead, if the moves take all files out of
-/// them. A directory that isn't read, or in which a name can't be read, holds files.
+/// Returns the directories of a tree to which links of pages lead, if the moves take all files out of them. A directory
+/// that isn't read, or in which a name can't be read, holds files.
 ///
 /// Allocates paths.
 pub(crate) fn emptied_directories(
@@ -16,20 +16,49 @@ pub(crate) fn emptied_directories(
     tree: &Tree,
     plan: &Plan<'_>,
 ) -> Result<BTreeSet<String>, AllocError> {
-    let mut emptied = linked_directories(alloc, plan)?;
-    if emptied.is_empty() {
-        return Ok(emptied);
+    let linked = linked_directories(alloc, plan)?;
+    if linked.is_empty() {
+        return Ok(BTreeSet::new(alloc));
+    }
+    let empty = empty_directories(alloc, tree, plan, &linked)?;
+    let mut emptied = BTreeSet::new(alloc);
+    for (directory, now) in &linked {
+        if empty.contains(now.as_str()) {
+            emptied.insert(String::from_str(alloc, directory.as_str())?)?;
+        }
+    }
+    Ok(emptied)
+}
+
+// Returns where those of some directories are after the moves that hold nothing then.
+fn empty_directories(
+    alloc: Global,
+    tree: &Tree,
+    plan: &Plan<'_>,
+    directories: &BTreeMap<String, String>,
+) -> Result<BTreeSet<String>, AllocError> {
+    let mut empty = BTreeSet::new(alloc);
+    for now in directories.values() {
+        empty.insert(String::from_str(alloc, now.as_str())?)?;
     }
     for (path, kind) in &tree.entries {
         if holds_itself(tree, path.as_str(), kind) {
-            remove_above(alloc, &mut emptied, &plan.moves, path.as_str())?;
+            let now = path_after(alloc, &plan.moves, path.as_str())?;
+            remove_above(&mut empty, now.as_str());
         }
     }
     for path in &tree.unreadable_names {
-        emptied.remove(path.as_str());
-        remove_above(alloc, &mut emptied, &plan.moves, path.as_str())?;
+        let now = path_after(alloc, &plan.moves, path.as_str())?;
+        empty.remove(now.as_str());
+        remove_above(&mut empty, now.as_str());
     }
-    Ok(emptied)
+    Ok(empty)
+}
+
+// Returns where a path is after moves.
+fn path_after(alloc: Global, moves: &TreeMoves<'_>, path: &str) -> Result<String, AllocError> {
+    let now = moves.path_after(alloc, RelativePath::new(path))?;
+    Ok(now.into_relative_path_buf().into_string())
 }
 
 // Whether the directories above an entry aren't empty by it alone: it is no directory, or one that isn't read.
@@ -37,25 +66,20 @@ fn holds_itself(tree: &Tree, path: &str, kind: &EntryKind) -> bool {
     *kind != EntryKind::Directory || !is_read_directory(tree, path)
 }
 
-// Removes the directories above a path, where it is after moves.
-fn remove_above(
-    alloc: Global,
-    directories: &mut BTreeSet<String>,
-    moves: &TreeMoves<'_>,
-    path: &str,
-) -> Result<(), AllocError> {
-    let now = moves.path_after(alloc, RelativePath::new(path))?;
-    let now = now.as_relative_path().as_str();
-    for (slash, _) in now.match_indices('/') {
-        directories.remove(now.get(..slash).unwrap_or(""));
+// Removes the directories above a path.
+fn remove_above(directories: &mut BTreeSet<String>, path: &str) {
+    for (slash, _) in path.match_indices('/') {
+        directories.remove(path.get(..slash).unwrap_or(""));
     }
-    Ok(())
 }
 
-// The directories to which links lead, and that don't move, but something in them does.
-fn linked_directories(alloc: Global, plan: &Plan<'_>) -> Result<BTreeSet<String>, AllocError> {
+// Returns the directories to which links lead, and in which something moves, each with its path after the moves.
+fn linked_directories(
+    alloc: Global,
+    plan: &Plan<'_>,
+) -> Result<BTreeMap<String, String>, AllocError> {
     let directories = directories_left(alloc, &plan.moves)?;
-    let mut linked = BTreeSet::new(alloc);
+    let mut linked = BTreeMap::new(alloc);
     for page in &plan.pages {
         add_linked(alloc, &directories, page, &mut linked)?;
     }
@@ -65,31 +89,34 @@ fn linked_directories(alloc: Global, plan: &Plan<'_>) -> Result<BTreeSet<String>
 // Adds those of some directories to which links of a page lead.
 fn add_linked(
     alloc: Global,
-    directories: &BTreeSet<String>,
+    directories: &BTreeMap<String, String>,
     page: &MovedSitePage,
-    linked: &mut BTreeSet<String>,
+    linked: &mut BTreeMap<String, String>,
 ) -> Result<(), AllocError> {
     for edit in &page.edits {
-        if let Some(path) = file_of(edit)
-            && directories.contains(path)
-        {
-            linked.insert(String::from_str(alloc, path)?)?;
+        let path = file_of(edit);
+        if let Some(now) = directories.get(path) {
+            let now = String::from_str(alloc, now.as_str())?;
+            linked.insert(String::from_str(alloc, path)?, now)?;
         }
     }
     Ok(())
 }
 
-// The path of the file to which the link of an edit leads.
-fn file_of(edit: &Edit) -> Option<&str> {
+// The path of the file to which the link of an edit leads, or an empty one.
+fn file_of(edit: &Edit) -> &str {
     match &edit.file {
-        Some(file) => Some(file.as_relative_path().as_str()),
-        None => None,
+        Some(file) => file.as_relative_path().as_str(),
+        None => "",
     }
 }
 
-// The directories above old paths that don't move.
-fn directories_left(alloc: Global, moves: &TreeMoves<'_>) -> Result<BTreeSet<String>, AllocError> {
-    let mut directories = BTreeSet::new(alloc);
+// Returns the directories above old paths, each with its path after the moves.
+fn directories_left(
+    alloc: Global,
+    moves: &TreeMoves<'_>,
+) -> Result<BTreeMap<String, String>, AllocError> {
+    let mut directories = BTreeMap::new(alloc);
     for a in moves.moves() {
         let old = a.old.normal().as_relative_path().as_str();
         add_above(alloc, moves, old, &mut directories)?;
@@ -97,19 +124,17 @@ fn directories_left(alloc: Global, moves: &TreeMoves<'_>) -> Result<BTreeSet<Str
     Ok(directories)
 }
 
-// Adds the directories above a path that don't move.
+// Adds the directories above a path, each with its path after the moves.
 fn add_above(
     alloc: Global,
     moves: &TreeMoves<'_>,
     path: &str,
-    directories: &mut BTreeSet<String>,
+    directories: &mut BTreeMap<String, String>,
 ) -> Result<(), AllocError> {
     for (slash, _) in path.match_indices('/') {
         let above = path.get(..slash).unwrap_or("");
-        let now = moves.path_after(alloc, RelativePath::new(above))?;
-        if now.as_relative_path().as_str() == above {
-            directories.insert(now.into_relative_path_buf().into_string())?;
-        }
+        let now = path_after(alloc, moves, above)?;
+        directories.insert(String::from_str(alloc, above)?, now)?;
     }
     Ok(())
 }

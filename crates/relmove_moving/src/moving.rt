@@ -1,7 +1,7 @@
 //! Plans moves in a tree that was read, and finds the links that the plan leaves.
 use crate::losses::Watch;
 use relative_path::RelativePath;
-use relative_path_links::{Change, Edit, Markdown, MovedSitePage, SitePage};
+use relative_path_links::{Change, Edit, Markdown, MovedSitePage, SitePage, SiteRoot};
 use relative_path_moves::{Move, TreeMoves};
 use relative_path_places::NormalPath;
 use relmove_findings::{LeftLink, LostSymlink, Moving, WhyLeft, WhyRefused};
@@ -17,8 +17,8 @@ use relmove_store::{
 use std::alloc::{AllocError, Global};
 use std::io::ErrorKind;
 
-/// Plans the moves of a tree: each OLD with its NEW. Nothing is changed. Fails with [`RunFault::TooLong`] if something in the
-/// tree gets a path that is too long for the system.
+/// Plans the moves of a tree: each OLD with its NEW. Nothing is changed. Links that begin with a slash lead from the site's
+/// root. Fails with [`RunFault::TooLong`] if something in the tree gets a path that is too long for the system.
 ///
 /// Asks the system whether what the links that stay lead to is there, and for the names in directories that aren't read
 /// and get longer paths. Of a link it asks for nothing else, unless the link leads through a symbolic link or into a
@@ -27,13 +27,14 @@ use std::io::ErrorKind;
 pub fn moving_of<'a, 'm, S: Store>(
     store: &mut S,
     tree: &'a Tree,
+    root: &SiteRoot,
     moves: &[(&'m str, &'m str)],
     rule: NameRule,
 ) -> Result<Moving<'a, 'm>, WhyRefused> {
     let alloc = store.alloc();
     need_read_directories(alloc, moves)?;
     let pairs = pairs_of(alloc, moves)?;
-    let plan = plan_of(alloc, tree, &pairs, rule)?;
+    let plan = plan_of(alloc, tree, root, &pairs, rule)?;
     need_directories(alloc, tree, moves)?;
     need_other_names(moves)?;
     need_short_paths(store, tree, &plan.moves)?;
@@ -190,6 +191,7 @@ fn cannot_ask(kind: ErrorKind) -> bool {
 fn plan_of<'a>(
     alloc: Global,
     tree: &Tree,
+    root: &SiteRoot,
     moves: &[(RelativePath<'a>, RelativePath<'a>)],
     rule: NameRule,
 ) -> Result<Plan<'a>, Refusal> {
@@ -199,6 +201,7 @@ fn plan_of<'a>(
     let tree = relmove_plan::SiteTree {
         entries: &entries,
         pages: &pages,
+        root,
     };
     make_plan(alloc, tree, moves, rule, &Markdown)
 }
@@ -333,8 +336,7 @@ fn loss_of_edit<S: Store>(
     }
 }
 
-// Returns whether a relative target with this file leads to a file, or may. A target without one has a meaning that isn't
-// known.
+// Returns whether a target with this file leads to a file, or may. A target without one has a meaning that isn't known.
 fn may_lead<S: Store>(store: &mut S, file: Option<&NormalPath>) -> Result<bool, RunFault> {
     let Some(file) = file else {
         return Ok(true);

@@ -49,7 +49,7 @@ spells-single : (text : List ℕ) → components text ≡ name text ∷ [] → S
 spells-single text single = spells text (text ∷ []) (λ none. cc none) single (sym (ap spell single))
 
 -- what holds of the second elements of two lists in which pairs are related, holds of each
-AllZip-second : {X Y : Type 0} (P : X → Type 0) (R : X → Y → Type 0) (Q : Y → Type 0)
+pub AllZip-second : {X Y : Type 0} (P : X → Type 0) (R : X → Y → Type 0) (Q : Y → Type 0)
     → ((x : X) (y : Y) → P x → R x y → Q y) → (xs : List X) (ys : List Y) → All P xs → AllZip R xs ys → All Q ys
 AllZip-second P R Q next xs [] each zipped = λ k d within. absurd (let w : k < 0 = within in omega (arith, w))
 AllZip-second P R Q next [] (y ∷ ys) each zipped = absurd zipped

@@ -7,11 +7,9 @@ use Rattle.relative_path.proofs.ForCallers.{IsSame-sym, IsSame-trans, walk-names
 use Rattle.relative_path.specs.Normalizing.{IsNormalTextOf}
 use Rattle.relative_path.specs.Steps.{Step, name, slash, components}
 use Rattle.relative_path.specs.Walk.{place_of}
-use Rattle.relative_path_links.specs.declared.site.MovedSitePage.{MovedSitePage}
 use Rattle.relative_path_moves.proofs.ForCallers.{IsTreePath-only}
 use Rattle.relative_path_moves.specs.Moves.{Move, move_at}
 use Rattle.relative_path_moves.specs.TreeMoves.{AtTreePath}
-use Rattle.relative_path_places.proofs.ForCallers.{IsNormalTextOf-same}
 use Rattle.relmove_checks.specs.declared.entry.Entry.{Entry}
 use Rattle.relmove_checks.specs.declared.name_rule.NameRule.{NameRule}
 use Rattle.relmove_plan.proofs.ArrivalsLemmas as arrivals
@@ -25,10 +23,10 @@ use Rattle.relmove_plan.proofs.SourcesLemmas.{first_of, get_or-map_element}
 use Rattle.relmove_plan.proofs.TreeRemovesLemmas.{AreDirectories, Contains-among, DeepestFirst, IsAmong}
 use Rattle.relmove_plan.proofs.WholeTreesLemmas.{HasDirectoryAt-above, IsSame-one_place, not_empty}
 use Rattle.relmove_trees.specs.FileTrees.{Directory, IsUnder, Place, Tree, names_of}
-use Rattle.relmove_plan.specs.MovedTrees.{AreTakenTo, IsAboveOld, IsLeftBehind, IsLinkedAt}
+use Rattle.relmove_plan.specs.MovedTrees.{AreTakenTo, IsAboveOld, IsLeftBehind}
 use Rattle.relmove_plan.specs.WholeTrees.{HasDirectoryAt, IsAt}
 use Rattle.relmove_steps.specs.Actions.{ActionTexts, BelowFirst}
-use Rattle.relmove_steps.specs.Directories.{AreAllLeftBehind, IsLeftBehindByMove, IsLinked, LinksTo}
+use Rattle.relmove_steps.specs.Directories.{AreAllLeftBehind, IsLeftBehindByMove}
 use Rattle.relmove_trees.proofs.FileTreesLemmas.{some_is}
 
 -- the text spells its names, and has one
@@ -64,29 +62,6 @@ deepest (first ∷ texts) order differ spelled = (
             order 0 (suc k) (omega arith) (omega (arith, within))
             (IsBelow-spelled first (get_or texts k []) (names_of first) n rest one.some one.joined
             (get_or_default texts k [] other within ∙ is ∙ two.joined ∙ ap (join_with_byte slash) same))
-
--- a link leads to a place, or to its text
-IsLinked-place : (moves : List Move) (news : List MovedSitePage) (place : Place) (text : List ℕ) (target : List Step)
-    → place_of target ≡ Some place → IsNormalTextOf target text → IsLinkedAt moves news place → IsLinked moves news text
-IsLinked-place moves news place text target leads normal
-    (a, new, in_a, is_a, (b, edit, in_b, is_b, (file, file_is, (t, t_is, there)))) =
-    let links : LinksTo moves text edit = record {
-      file = file;
-      file_is = file_is;
-      now = (
-        t,
-        t_is,
-        IsNormalTextOf-same t text normal.normal_text (IsSame-trans (IsSame-one_place place there leads) normal.same),
-      );
-    } in
-    (a, new, in_a, is_a, (b, edit, in_b, is_b, links))
-
-IsLinkedAt-text : (moves : List Move) (news : List MovedSitePage) (place : Place) (text : List ℕ) (target : List Step)
-    → place_of target ≡ Some place → IsNormalTextOf target text → IsLinked moves news text → IsLinkedAt moves news place
-IsLinkedAt-text moves news place text target leads normal (a, new, in_a, is_a, (b, edit, in_b, is_b, links)) =
-    let (t, t_is, t_normal) = links.now in
-    let there : place_of t ≡ Some place = (IsSame-trans t_normal.same (IsSame-sym normal.same)).everywhere [] ∙ leads in
-    (a, new, in_a, is_a, (b, edit, in_b, is_b, (links.file, links.file_is, (t, t_is, there))))
 
 -- a directory that was above an old path, and where it is after the moves
 pub record IsLeftAt (entries : List Entry) (moves : List Move) (text : List ℕ) : Type 0 where
@@ -134,10 +109,10 @@ module _ {entries : List Entry} {pages changed : List (List Step)} {moves : List
 
     -- ---- the list has exactly the directories that are left
 
-    module _ (news : List MovedSitePage) (emptied : List (List ℕ)) (left : All (IsLeftBehindByMove moves moves) emptied)
-        (all : AreAllLeftBehind moves moves news emptied)
+    module _ (emptied : List (List ℕ)) (left : All (IsLeftBehindByMove moves moves) emptied)
+        (all : AreAllLeftBehind moves moves emptied)
       where
-        pub among-left : (place : Place) → IsAmong (map names_of emptied) place → IsLeftBehind moves news place
+        pub among-left : (place : Place) → IsAmong (map names_of emptied) place → IsLeftBehind moves place
         among-left place among =
             let (text, (i, within, is), same) = IsAmong-map names_of emptied place among in
             let one = left_at text (subst (IsLeftBehindByMove moves moves) is (left i text within)) in
@@ -146,18 +121,15 @@ module _ {entries : List Entry} {pages changed : List (List Step)} {moves : List
               some = one.some;
               above = one.above;
               taken = subst (AreTakenTo moves one.from) (sym same) one.taken;
-              unlinked = λ linked.
-                  (subst (λ text. ¬ IsLinked moves news text) is (all.unlinked i text within))
-                  (IsLinked-place moves news place text one.target (one.leads ∙ ap Some (sym same)) one.normal linked);
             }
 
-        pub left-among : (place : Place) → IsLeftBehind moves news place → IsAmong (map names_of emptied) place
+        pub left-among : (place : Place) → IsLeftBehind moves place → IsAmong (map names_of emptied) place
         left-among place it = by it.above
           where
             by : IsAboveOld moves it.from → IsAmong (map names_of emptied) place
             by (k, inside, n, rest, old) =
                 let fine = run.accepted.apart.come.leave.olds k inside in
-                let one = all.complete k inside (map name it.from) (record {
+                let one = all k inside (map name it.from) (record {
                   normal = fine.normal;
                   normal_of = fine.normal_of;
                   above = HasDirectory-names (move_at moves k).old fine.normal it.from (n ∷ rest) fine.normal_of old it.some
@@ -168,8 +140,7 @@ module _ {entries : List Entry} {pages changed : List (List Step)} {moves : List
                 let same : other ≡ target =
                 IsTreePath-only moves (map name it.from) target other run.accepted.apart.come.leave.apart target_is other_is in
                 let here : place_of target ≡ Some place = ap place_of (sym same) ∙ leads in
-                let (i, within, is) =
-                one.has (λ linked. it.unlinked (IsLinkedAt-text moves news place one.text target here normal linked)) in
+                let (i, within, is) = one.has in
                 Contains-among (map names_of emptied) place (
                   i,
                   rw length-map within,

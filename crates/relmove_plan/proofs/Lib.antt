@@ -26,6 +26,7 @@ pub mod WholeRunsLemmas
 pub mod UnreadLemmas
 pub mod EmptiedLemmas
 pub mod ActionPathsLemmas
+pub mod MadePathsLemmas
 pub mod RunsOnLemmas
 pub mod SomeTreesLemmas
 pub mod ForCallers

@@ -53,10 +53,11 @@ AreAfter-only moves (entry ∷ entries) (x ∷ one) (y ∷ other) apart are are_
 
 -- what is known of a plan for a whole tree, and of its actions
 pub record IsPlanned (entries : List Entry) (pages : List SitePage) (news : List MovedSitePage)
-    (finds : List ℕ → List Target → Type 0) (moves : List Move) (rule : NameRule) (actions : Actions) : Type 0 where
+    (finds : List ℕ → List Target → Type 0) (root : Option (List Step)) (moves : List Move) (rule : NameRule)
+    (actions : Actions) : Type 0 where
   pub whole : IsWhole entries (page_paths pages)
   pub accepted : AreAllowed entries moves rule
-  pub links : KeepTheirLinks finds moves pages news
+  pub links : KeepTheirLinks finds root moves pages news
   pub staged : BelowFirst (map (λ step. string_bytes step.from) actions.staged.items)
   pub placed : AboveFirst (map (λ step. string_bytes step.to) actions.placed.items)
   pub once : LeaveOnce (action_texts actions)
@@ -70,8 +71,8 @@ pub record IsPlanned (entries : List Entry) (pages : List SitePage) (news : List
   pub texts : WritesPages (changed_paths pages news) (action_texts actions)
 
 module _ {entries : List Entry} {pages : List SitePage} {news : List MovedSitePage}
-    {finds : List ℕ → List Target → Type 0} {moves : List Move} {rule : NameRule} {actions : Actions}
-    (planned : IsPlanned entries pages news finds moves rule actions)
+    {finds : List ℕ → List Target → Type 0} {root : Option (List Step)} {moves : List Move} {rule : NameRule}
+    {actions : Actions} (planned : IsPlanned entries pages news finds root moves rule actions)
   where
     -- a page is a file of the tree, the moves take it to the path of its new page, and it is replaced if it changes
     abbrev IsKnownPage : SitePage → MovedSitePage → Type 0
@@ -84,7 +85,7 @@ module _ {entries : List Entry} {pages : List SitePage} {news : List MovedSitePa
     known_pages = by pages news planned.whole.files planned.links planned.replaced
       where
         by : (pages : List SitePage) (news : List MovedSitePage) → All (LeadsToFile entries) (page_paths pages)
-            → KeepTheirLinks finds moves pages news → ReplacesPages pages news (action_texts actions)
+            → KeepTheirLinks finds root moves pages news → ReplacesPages pages news (action_texts actions)
             → AllZip IsKnownPage pages news
         by [] [] files links replaced = tt
         by [] (new ∷ news) files links replaced = absurd links

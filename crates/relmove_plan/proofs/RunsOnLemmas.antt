@@ -46,11 +46,11 @@ AllZip-both R S (x ∷ xs) [] one other = absurd one
 AllZip-both R S (x ∷ xs) (y ∷ ys) one other = ((one.0, other.0), AllZip-both R S xs ys one.1 other.1)
 
 module _ {entries : List Entry} {pages : List SitePage} {news : List MovedSitePage} {finds : List ℕ → List Target → Type 0}
-    {moves : List Move} {rule : NameRule} {actions : Actions} (planned : IsPlanned entries pages news finds moves rule actions)
-    (made emptied : List (List ℕ))
+    {root : Option (List Step)} {moves : List Move} {rule : NameRule} {actions : Actions}
+    (planned : IsPlanned entries pages news finds root moves rule actions) (made emptied : List (List ℕ))
     (missing : MakesMissing moves (map components planned.accepted.apart.after) (action_texts actions) made)
     (order : BelowFirst emptied) (differ : AllPairs (λ one other. one ≢ other) emptied)
-    (left : All (IsLeftBehindByMove moves moves) emptied) (all : AreAllLeftBehind moves moves news emptied)
+    (left : All (IsLeftBehindByMove moves moves) emptied) (all : AreAllLeftBehind moves moves emptied)
     (tree now : Tree) (agrees : AgreesWith entries pages moves (action_texts actions) tree)
     (texts : HasTexts pages news tree now)
   where
@@ -128,24 +128,24 @@ module _ {entries : List Entry} {pages : List SitePage} {news : List MovedSitePa
       now_is = has_texts;
     }
 
-    pub runs : LeadTo (tree_actions (action_texts actions) made emptied) (IsAfterMoves moves news now) tree
+    pub runs : LeadTo (tree_actions (action_texts actions) made emptied) (IsAfterMoves moves now) tree
     runs =
-        LeadTo-weaker (tree_actions (action_texts actions) made emptied) _ (IsAfterMoves moves news now)
+        LeadTo-weaker (tree_actions (action_texts actions) made emptied) _ (IsAfterMoves moves now)
         (λ end (moved, is_moved, cleared). record {
           moved = moved;
           are_moved = is_moved;
-          cleared = IsCleared-same (IsAmong (map names_of emptied)) (IsLeftBehind moves news) moved end
-              (left-among run news emptied left all) (among-left run news emptied left all) cleared;
+          cleared = IsCleared-same (IsAmong (map names_of emptied)) (IsLeftBehind moves) moved end
+              (left-among run emptied left all) (among-left run emptied left all) cleared;
         })
         tree
         (leads run made tree now on emptied (deepest_first run emptied order differ left)
         (left_there run made tree now on emptied left))
 
 pub RunsOn-plan : {entries : List Entry} {pages : List SitePage} {news : List MovedSitePage}
-    {finds : List ℕ → List Target → Type 0} {moves : List Move} {rule : NameRule} {actions : Actions}
-    (planned : IsPlanned entries pages news finds moves rule actions) (made emptied : List (List ℕ))
+    {finds : List ℕ → List Target → Type 0} {root : Option (List Step)} {moves : List Move} {rule : NameRule}
+    {actions : Actions} (planned : IsPlanned entries pages news finds root moves rule actions) (made emptied : List (List ℕ))
     → MakesMissing moves (map components planned.accepted.apart.after) (action_texts actions) made
     → BelowFirst emptied → AllPairs (λ one other. one ≢ other) emptied → All (IsLeftBehindByMove moves moves) emptied
-    → AreAllLeftBehind moves moves news emptied → RunsOn entries pages news moves (action_texts actions) made emptied
+    → AreAllLeftBehind moves moves emptied → RunsOn entries pages news moves (action_texts actions) made emptied
 RunsOn-plan planned made emptied missing order differ left all tree now agrees texts =
     runs planned made emptied missing order differ left all tree now agrees texts

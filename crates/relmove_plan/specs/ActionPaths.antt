@@ -3,7 +3,6 @@ use Rattle.std.specs.Prelude.{◌≡◌, ◌≢◌, ℕ, List, [], AllPairs}
 use Rattle.std.specs.List.{All}
 use Rattle.relative_path.specs.Normalizing.{AreNames}
 use Rattle.relative_path.specs.Steps.{Step, components, spell}
-use Rattle.relative_path_links.specs.declared.site.MovedSitePage.{MovedSitePage}
 use Rattle.relative_path_moves.specs.Moves.{Move}
 use Rattle.relmove_steps.specs.Actions.{ActionTexts, BelowFirst, LosesNothing, OnlyTheseLeave}
 use Rattle.relmove_steps.specs.Directories.{AreAllLeftBehind, IsLeftBehindByMove}
@@ -24,12 +23,12 @@ pub record AreSpelled (actions : ActionTexts) (to_make to_empty : List (List ℕ
   pub emptied : All SpellsNames to_empty
 
 -- what leaves was at an old path, is a page that changes, or is a new text, and comes or is removed, once; and the directories
--- to be emptied are those that moves leave behind and no link leads to, each once, after what is below it
-pub record DoNoMore (moves : List Move) (changed : List (List Step)) (news : List MovedSitePage) (actions : ActionTexts)
-    (to_empty : List (List ℕ)) : Type 0 where
+-- to be emptied are those that moves leave behind, each once, after what is below it
+pub record DoNoMore (moves : List Move) (changed : List (List Step)) (actions : ActionTexts) (to_empty : List (List ℕ))
+    : Type 0 where
   pub leave : OnlyTheseLeave moves changed actions
   pub kept : LosesNothing actions
   pub left : All (IsLeftBehindByMove moves moves) to_empty
-  pub all : AreAllLeftBehind moves moves news to_empty
+  pub all : AreAllLeftBehind moves moves to_empty
   pub different : AllPairs (λ one other. one ≢ other) to_empty
   pub order : BelowFirst to_empty

@@ -72,14 +72,14 @@ pub record HasTexts (pages : List SitePage) (news : List MovedSitePage) (tree no
   pub others : (place : Place) → IsNoneAt (changed_paths pages news) (map name place) → now place ≡ tree place
 
 -- the tree is the one after the moves, without the directories that are left behind and hold nothing but such
-pub record IsAfterMoves (moves : List Move) (news : List MovedSitePage) (now end : Tree) : Type 0 where
+pub record IsAfterMoves (moves : List Move) (now end : Tree) : Type 0 where
   pub moved : Tree
   pub are_moved : IsMoved moves now moved
-  pub cleared : IsCleared (IsLeftBehind moves news) moved end
+  pub cleared : IsCleared (IsLeftBehind moves) moved end
 
 -- whoever does the actions on a tree that agrees can do each, and comes to that tree
 abbrev pub RunsOn : List Entry → List SitePage → List MovedSitePage → List Move → ActionTexts → List (List ℕ)
     → List (List ℕ)
     → Type 0
 RunsOn entries pages news moves actions made emptied = (tree now : Tree) → AgreesWith entries pages moves actions tree
-    → HasTexts pages news tree now → LeadTo (tree_actions actions made emptied) (IsAfterMoves moves news now) tree
+    → HasTexts pages news tree now → LeadTo (tree_actions actions made emptied) (IsAfterMoves moves now) tree

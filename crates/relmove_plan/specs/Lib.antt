@@ -3,3 +3,4 @@ pub mod MovedTrees
 pub mod KnownTrees
 pub mod ActionPaths
 pub mod Symlinks
+pub mod MadePaths

@@ -1,9 +1,7 @@
 -- The tree after the moves.
 use Rattle.std.specs.Prelude.{◌≡◌, ◌≢◌, ◌⊎◌, ◌<◌, ℕ, List, [], ◌∷◌, ◌++◌, map, length, Some, None, IsSome}
-use Rattle.std.specs.List.{Any}
 use Rattle.relative_path.specs.Steps.{components, name}
 use Rattle.relative_path.specs.Walk.{place_of}
-use Rattle.relative_path_links.specs.declared.site.MovedSitePage.{MovedSitePage}
 use Rattle.relative_path_moves.specs.Moves.{Move, move_at}
 use Rattle.relative_path_moves.specs.TreeMoves.{AtTreePath}
 use Rattle.relmove_trees.specs.FileTrees.{Directory, Place, Tree}
@@ -30,19 +28,12 @@ pub record IsMoved (moves : List Move) (now end : Tree) : Type 0 where
   pub only : (to : Place) → IsSome (end to)
       → ((from : Place) × IsSome (now from) × AreTakenTo moves from to) ⊎ IsAboveNew moves to
 
--- the file of a link of a page, as it was before the moves, is at the place after them
-abbrev pub IsLinkedAt : List Move → List MovedSitePage → Place → Type 0
-IsLinkedAt moves news place = Any (λ new. Any (λ edit. (file : List ℕ) × (edit.file ≡ Some file)
-    × AtTreePath moves (components file) (λ target. place_of target ≡ Some place)) new.edits.items) news
-
--- at the place is, after the moves, a directory that was above an old path and isn't the root, also if it moved itself, and no
--- link leads there
-pub record IsLeftBehind (moves : List Move) (news : List MovedSitePage) (place : Place) : Type 0 where
+-- at the place is, after the moves, a directory that was above an old path and isn't the root, also if it moved itself
+pub record IsLeftBehind (moves : List Move) (place : Place) : Type 0 where
   pub from : Place
   pub some : from ≢ []
   pub above : IsAboveOld moves from
   pub taken : AreTakenTo moves from place
-  pub unlinked : ¬ IsLinkedAt moves news place
 
 -- the place is left behind, and so is each place below it at which something is
 pub record IsEmptied (left : Place → Type 0) (tree : Tree) (place : Place) : Type 0 where

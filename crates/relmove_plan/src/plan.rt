@@ -1,5 +1,5 @@
 //! The plan of a run.
-ghost use Rattle.std.specs.Prelude.{◌≡◌, IfErr, IfOk, OnOk, map, string_bytes};
+ghost use Rattle.std.specs.Prelude.{◌≡◌, All, IfErr, IfOk, OnOk, map, string_bytes};
 ghost use Rattle.relative_path_links.specs.Site.{AreRewritten, KeepTheirLinks};
 ghost use Rattle.relative_path_moves.specs.Moves.{moves_of};
 ghost use Rattle.relmove_checks.specs.Moves.{EachMove};
@@ -11,12 +11,13 @@ ghost use Rattle.relmove_steps.specs.Pages.{changed_paths, page_paths};
 ghost use Rattle.relmove_steps.specs.StagingNames.{AreFreeNames};
 ghost use Rattle.relmove_plan.specs.ActionPaths.{AreSpelled, DoNoMore};
 ghost use Rattle.relmove_plan.specs.KnownTrees.{RunsOn};
+ghost use Rattle.relmove_plan.specs.MadePaths.{IsMadePath};
 ghost use Rattle.relmove_plan.specs.Symlinks.{AreNotices};
 ghost use Rattle.relmove_plan.specs.WholeTrees.{IsWhole};
 
 use crate::symlinks::{SymlinkNotice, symlink_notices};
 use relative_path::RelativePath;
-use relative_path_links::{Finder, MovedSitePage, SitePage, rewrite_site};
+use relative_path_links::{Finder, MovedSitePage, SitePage, SiteRoot, rewrite_site};
 use relative_path_moves::TreeMoves;
 use relmove_actions::Actions;
 use relmove_checks::{Entry, NameRule, Refusal, coming_index, entry_index, leaving_table};
@@ -31,6 +32,8 @@ pub struct SiteTree<'a> {
     pub entries: &'a [Entry<'a>],
     /// The pages.
     pub pages: &'a [SitePage<'a>],
+    /// The root of the site, from which targets lead that begin with a slash.
+    pub root: &'a SiteRoot,
 }
 
 /// What a run does.
@@ -59,11 +62,11 @@ pub fn make_plan<'a, F: Finder>(
 ) -> Result<Plan<'a>, Refusal>
     // the table is of these moves
     ensures table { IfOk result (λ plan. plan.moves ≡ moves_of moves.now) }
-    // each relative link still leads to its file, query and fragment kept, or is left; just pages with a text change
-    ensures links { IfOk result (λ plan. KeepTheirLinks (F.finds finder.now) (moves_of moves.now)
+    // each link that is read still leads to its file, query and fragment kept, or is left; just pages with a text change
+    ensures links { IfOk result (λ plan. KeepTheirLinks (F.finds finder.now) tree.entry.root.now (moves_of moves.now)
         tree.entry.pages.now plan.pages.items) }
     // each page as by `rewrite_links`, but for targets that are given up, at its path after the moves
-    ensures rewritten { IfOk result (λ plan. AreRewritten (F.finds finder.now) (moves_of moves.now)
+    ensures rewritten { IfOk result (λ plan. AreRewritten (F.finds finder.now) tree.entry.root.now (moves_of moves.now)
         tree.entry.pages.now plan.pages.items) }
     // the moves pass each check
     ensures accepted { OnOk result (AreAllowed tree.entry.entries.now (moves_of moves.now) rule) }
@@ -92,17 +95,20 @@ pub fn make_plan<'a, F: Finder>(
     ensures spelled { IfOk result (λ plan. IsWhole tree.entry.entries.now (page_paths tree.entry.pages.now)
         → AreSpelled (action_texts plan.actions) (map string_bytes plan.actions.made.items)
         (map string_bytes plan.actions.emptied.items)) }
+    // if entries are whole, no directory is made at a run's own name, but below the staging name of what moves
+    ensures made { IfOk result (λ plan. IsWhole tree.entry.entries.now (page_paths tree.entry.pages.now)
+        → All (IsMadePath (moves_of moves.now) (action_texts plan.actions)) (map string_bytes plan.actions.made.items)) }
     // nothing leaves or is emptied but for moves and changed pages; what leaves comes or is removed, once
     ensures only { IfOk result (λ plan. DoNoMore (moves_of moves.now)
-        (changed_paths tree.entry.pages.now plan.pages.items) plan.pages.items
-        (action_texts plan.actions) (map string_bytes plan.actions.emptied.items)) }
+        (changed_paths tree.entry.pages.now plan.pages.items) (action_texts plan.actions)
+        (map string_bytes plan.actions.emptied.items)) }
     // refusals but `OutOfMemory` are of the first failed check, and its first move or entry
     ensures refused { IfErr result (IsRefused tree.entry.entries.now (moves_of moves.now) rule) }
 {
     let index = entry_index(alloc, tree.entries)?;
     let table = leaving_table(alloc, tree.entries, &index, moves, rule)?;
     let after = coming_index(alloc, tree.entries, &index, &table)?;
-    let pages = rewrite_site(alloc, tree.pages, &table, finder)?;
+    let pages = rewrite_site(alloc, tree.pages, tree.root, &table, finder)?;
     let symlinks = symlink_notices(alloc, tree.entries, &table)?;
     let now = After {
         index: &index,

@@ -1,16 +1,16 @@
 //! What a call prints.
-use relmove_folder::{DeadLink, Position};
+use relmove_folder::{DeadLink, Position, WhyDead};
 use relmove_run::{Change, Ended, Printable, Remark, RunFault, Stage};
 use serde_json::json;
-use std::alloc::Global;
+use std::alloc::{AllocError, Global};
 use std::io::{self, Write};
 
 /// The usage of the program.
 pub const USAGE: &str =
-    "usage: relmove [--write] [--json] [--verbose] [--any-name] [--moved] [--quiet-mentions] [--exclude PATH]... ROOT OLD NEW [OLD NEW]...
-       relmove [--write] [--json] [--verbose] [--any-name] [--moved] [--quiet-mentions] [--exclude PATH]... --into DIR ROOT OLD...
-       relmove [--write] [--json] [--verbose] [--any-name] [--moved] [--quiet-mentions] [--exclude PATH]... --moves FILE ROOT
-       relmove --check [--json] [--verbose] [--exclude PATH]... ROOT
+    "usage: relmove [--write] [--json] [--verbose] [--any-name] [--moved] [--quiet-mentions] [--exclude PATH]... [--site-root DIR] ROOT OLD NEW [OLD NEW]...
+       relmove [--write] [--json] [--verbose] [--any-name] [--moved] [--quiet-mentions] [--exclude PATH]... [--site-root DIR] --into DIR ROOT OLD...
+       relmove [--write] [--json] [--verbose] [--any-name] [--moved] [--quiet-mentions] [--exclude PATH]... [--site-root DIR] --moves FILE ROOT
+       relmove --check [--fragments] [--json] [--verbose] [--exclude PATH]... [--site-root DIR] [--pages-as FORM] ROOT
        relmove --resume [--trust-journal [--write]] ROOT
        relmove --undo [--trust-journal [--write]] ROOT
        relmove --help | --version
@@ -36,9 +36,17 @@ output says what would be changed.
               git -C docs diff --relative -M --name-status HEAD | relmove --moved --moves - --write docs
   --exclude PATH
               read no page at or below PATH, a path below ROOT: relmove --exclude api --check docs
+  --site-root DIR
+              read links that begin with one slash too, from DIR, a directory below ROOT, or . for ROOT:
+              relmove --site-root content site content/a.md content/guide/a.md
   --quiet-mentions
               don't say where an old path is written that isn't a link: relmove --quiet-mentions docs old.md new.md
   --check     print each relative link of a page that leads above ROOT, or to a path below ROOT where nothing is
+  --fragments with --check: print a link to a page too whose fragment no heading and no element of HTML has as its name:
+              relmove --check --fragments docs
+  --pages-as FORM
+              with --check: a link to a.html (html), a/ (dir) or a (bare), where nothing is, leads to the page a.md, since
+              the site shows it so: relmove --check --pages-as html docs
   --resume    end a run that stopped: the run goes on, or, if it was going back, it goes back
   --undo      take back a run that stopped before everything was at its new path
   --trust-journal
@@ -49,16 +57,17 @@ output says what would be changed.
 Pages are the files below ROOT whose names end in .md or .markdown, in any case, and that are UTF-8. Pages with a name
 in their path that begins with a dot, other than .github, are neither read nor changed. Links are those of Markdown,
 and the attributes href and src of HTML in a page. The links of a page with a <base href> aren't read. A link that
-begins with a slash isn't relative, and isn't changed. Other files aren't changed either. Where a page, or a file whose
-name ends in .html, .mdx, .rst, .adoc, .txt, .yml, .yaml, .toml or .json, has the path of what moves and no link that is
-read, a line says so. Fragments aren't checked. Symbolic links aren't followed.
+begins with a slash is read with --site-root alone: it leads from DIR, which has one path before and after the moves,
+and begins with a slash again. Other files aren't changed. Where a page, or a file whose name ends in .html, .mdx, .rst,
+.adoc, .txt, .yml, .yaml, .toml or .json, has the path of what moves and no link that is read, a line says so. Fragments
+are checked only with --fragments. Symbolic links aren't followed.
 
-A directory that a run leaves empty is removed, unless a link of a page leads to it: then the link is printed. A run
-with --write first locks ROOT and writes the file ROOT/.relmove, its journal. The run gives all that moves and all
-pages that change names in its own directory, ROOT/.relmove-run, and then their new paths. At its end the run removes
-both. If a run stops in the middle, also by a loss of power, --resume or --undo ends this run, and no file is lost.
-One thing isn't safe: another program that puts a file at a path while relmove renames a file to it. A text that
-somebody changes during the run is kept, and printed.
+A directory that a run leaves empty is removed, and a link of a page that leads to it is printed. A run with --write
+first locks ROOT and writes the file ROOT/.relmove, its journal. The run gives all that moves and all pages that change
+names in its own directory, ROOT/.relmove-run, and then their new paths. At its end the run removes both. If a run stops
+in the middle, also by a loss of power, --resume or --undo ends this run, and no file is lost. One thing isn't safe:
+another program that puts a file at a path while relmove renames a file to it. A text that somebody changes during the
+run is kept, and printed.
 
 Exit status: 0 if all is done, 1 if a link is left that led to a file, or may have, or if a page isn't UTF-8 or has a
 <base href>, or if an old path is written outside the links that are read, or if a symbolic link moves or leads to what
@@ -66,7 +75,7 @@ moves, or if a run left something to look at, such as a text that was changed du
 dead), 2 if the call was wrong or failed and nothing was changed, 3 if a run stopped in the middle.
 ";
 
-/// Prints a dead link: page, line, column and target.
+/// Prints a dead link: page, line, column, target and why it is dead.
 pub fn print_dead_link<W: Write>(out: &mut W, root: &str, link: &DeadLink) -> io::Result<()> {
     let DeadLink {
         page,
@@ -83,10 +92,15 @@ pub fn print_dead_link<W: Write>(out: &mut W, root: &str, link: &DeadLink) -> io
     let words = why.words();
     let (root, page) = (Printable(root), Printable(page.as_str()));
     let target = Printable(target.as_str());
-    writeln!(
+    write!(
         out,
         "{root}{separator}{page}:{line}:{column}: {target}: {words}"
-    )
+    )?;
+    if let WhyDead::Missing { page: Some(page) } = why {
+        let page = Printable(page.as_str());
+        write!(out, ", but {page} is")?;
+    }
+    writeln!(out)
 }
 
 /// Prints a dead link as an object of JSON on a line.
@@ -97,7 +111,11 @@ pub fn print_dead_link_as_json<W: Write>(
 ) -> io::Result<()> {
     let page = link.page.as_str();
     let target = link.target.as_str();
-    let why = link.why.words();
+    let with_page = words_with_page(alloc, &link.why)?;
+    let why = match &with_page {
+        Some(words) => words.as_str(),
+        None => link.why.words(),
+    };
     let Position { line, column } = link.position;
     let (line, column) = (line as u64, column as u64);
     let object = json!(in alloc; {
@@ -109,6 +127,15 @@ pub fn print_dead_link_as_json<W: Write>(
     })?;
     let text = object.to_string(alloc)?;
     writeln!(out, "{text}")
+}
+
+// Why a link is dead, in words, if a page is there that it may mean.
+fn words_with_page(alloc: Global, why: &WhyDead) -> Result<Option<String>, AllocError> {
+    let WhyDead::Missing { page: Some(page) } = why else {
+        return Ok(None);
+    };
+    let words = why.words();
+    Ok(Some(format!(in alloc; "{words}, but {page} is")?))
 }
 
 /// Prints the changes that the end of a run makes.

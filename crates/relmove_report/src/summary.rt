@@ -251,6 +251,7 @@ fn why_unchanged(why: Unchanged) -> &'static str {
     match why {
         Unchanged::AboveRoot => "leads above the root",
         Unchanged::NoPath => "leads to a file to which no path leads from the page",
+        Unchanged::OutsideSiteRoot => "leads to a file that is outside of the site's root",
         Unchanged::Nul => "leads to a path with a NUL",
         Unchanged::Unknown(why) => why_unknown(why),
         Unchanged::WouldReadOtherwise => {

@@ -8,7 +8,7 @@
 //! the work            worker  ending
 //! parts of it         run_files  near  possible  synced  above
 //! a stage             stages  machine
-//! single calls        disk  staging_names
+//! single calls        disk
 //! ```
 #![tactic(auto)]
 
@@ -36,6 +36,5 @@ mod possible;
 mod run;
 mod run_files;
 mod stages;
-mod staging_names;
 mod synced;
 mod worker;

@@ -1,9 +1,9 @@
 //! Asks the system whether it can have the paths of a run, before the run begins.
 use crate::disk::copy_of;
-use crate::staging_names::{is_of_text, staging_path, text_path};
 use relmove_actions::Actions;
 use relmove_journal::{directory_of, join};
 use relmove_store::{Found, FoundKind, RunFault, Store, SystemCall, at, need_short};
+use relmove_work::{is_of_text, staging_path, text_path};
 use std::alloc::Global;
 use std::collections::BTreeMap;
 use std::io::ErrorKind;

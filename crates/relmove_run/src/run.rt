@@ -7,12 +7,12 @@ use crate::possible::need_possible;
 use crate::run_files::{
     Trust, find_journal, need_no_run_files, none_yet, remove_leftovers, run_files_of,
 };
-use crate::staging_names::with_staging_names;
 use crate::worker::{NewRun, Worker};
-use relmove_actions::{Actions, NewText, Rename};
-use relmove_journal::{JOURNAL, Journal, Leftover, Stage, TextDigest, TextFile, Work, is_of_run};
+use relmove_actions::{Actions, NewText};
+use relmove_journal::{JOURNAL, Journal, Stage, Work, is_of_run};
 use relmove_stages::Halt;
 use relmove_store::{Change, Found, PageFile, Remark, RunFault, Store, SystemCall, at};
+use relmove_work::work_of;
 use std::alloc::{AllocError, Global};
 use std::collections::BTreeMap;
 
@@ -240,8 +240,10 @@ fn prepare<S: Store + Drop>(
     for page in pages {
         need_page(&mut store, page.path, &page.file)?;
     }
-    let actions = with_staging_names(store.alloc(), actions)?;
-    let (texts, work) = work_of(store.alloc(), actions, pages)?;
+    let old_texts = old_texts_of(store.alloc(), pages)?;
+    let Some((texts, work)) = work_of(store.alloc(), actions, &old_texts)? else {
+        return Err(RunFault::NotAPlan);
+    };
     if !is_of_run(store.alloc(), &work)? {
         return Err(RunFault::NotAPlan);
     }
@@ -249,21 +251,16 @@ fn prepare<S: Store + Drop>(
     Ok((changes, work, Worker::new(store, files)))
 }
 
-// The new texts, and the work of a run with them.
-fn work_of(
+// The texts of pages before a run, by their paths.
+fn old_texts_of<'a>(
     alloc: Global,
-    actions: Actions,
-    pages: &[PageText<'_>],
-) -> Result<(Vec<NewText>, Work), RunFault> {
-    let cleaned = cleaned_of(alloc, &actions, pages)?;
-    let work = Work {
-        texts: text_files_of(alloc, &actions.texts)?,
-        staged: actions.staged,
-        made: actions.made,
-        placed: actions.placed,
-        cleaned,
-    };
-    Ok((actions.texts, work))
+    pages: &[PageText<'a>],
+) -> Result<BTreeMap<&'a str, &'a str>, AllocError> {
+    let mut texts = BTreeMap::new(alloc);
+    for page in pages {
+        texts.insert(page.path, page.text)?;
+    }
+    Ok(texts)
 }
 
 // The new texts, with the files of their pages.
@@ -284,51 +281,6 @@ fn changes_of(
         changes.push(PageChange { old: *old, new })?;
     }
     Ok(changes)
-}
-
-// The files of new texts.
-fn text_files_of(alloc: Global, texts: &[NewText]) -> Result<Vec<TextFile>, AllocError> {
-    let mut files = Vec::with_capacity(alloc, texts.len())?;
-    for text in texts {
-        files.push(TextFile {
-            path: String::from_str(alloc, text.file.as_str())?,
-            digest: TextDigest::of(text.text.as_bytes()),
-        })?;
-    }
-    Ok(files)
-}
-
-// What is removed at the end of a run: the old texts, and then directories.
-fn cleaned_of(
-    alloc: Global,
-    actions: &Actions,
-    pages: &[PageText<'_>],
-) -> Result<Vec<Leftover>, RunFault> {
-    let mut old_paths = BTreeMap::new(alloc);
-    for Rename { from, to } in &actions.staged {
-        old_paths.insert(to.as_str(), from.as_str())?;
-    }
-    let mut old_texts = BTreeMap::new(alloc);
-    for page in pages {
-        old_texts.insert(page.path, page.text)?;
-    }
-    let mut cleaned = Vec::new(alloc);
-    for name in &actions.removed {
-        let text = old_paths
-            .get(name.as_str())
-            .and_then(|page| old_texts.get(*page));
-        let Some(text) = text else {
-            return Err(RunFault::NotAPlan);
-        };
-        cleaned.push(Leftover::Text(TextFile {
-            path: String::from_str(alloc, name.as_str())?,
-            digest: TextDigest::of(text.as_bytes()),
-        }))?;
-    }
-    for path in &actions.emptied {
-        cleaned.push(Leftover::Directory(String::from_str(alloc, path.as_str())?))?;
-    }
-    Ok(cleaned)
 }
 
 // The run couldn't take back what it did before anything moved.

@@ -34,6 +34,15 @@ undone_at actions m i action sum at =
 pub undone-length : (actions : List StageAction) → length (undone actions) ≡ length actions
 undone-length actions = length-reverse (map back actions) ∙ length-map actions back
 
+-- the element that comes last but so many comes so many later in the reverse
+pub reversed_element : {A B : Type 0} (of : A → B) (xs : List A) (m : ℕ) (x : A) → m < length xs
+    → x ≡ get_or xs (length xs - 1 - m) x → slice_get (reverse (map of xs)) m ≡ Some (of x)
+reversed_element of xs m x within is =
+    let long = length-map xs of in
+    slice_get-reverse (map of xs) m (length xs - 1 - m) (of x) (omega (arith, within, long))
+    (slice_get-map of xs (length xs - 1 - m)
+    ∙ ap (option_map of) (slice_get_read xs (length xs) (length xs - 1 - m) x refl (omega (arith, within)) is))
+
 pub undone_element : {A : Type 0} (of : A → StageAction) (xs : List A) (m : ℕ) (x : A) → m < length xs
     → x ≡ get_or xs (length xs - 1 - m) x → slice_get (undone (map of xs)) m ≡ Some (back (of x))
 undone_element of xs m x within is =

@@ -4,7 +4,7 @@ use Rattle.std.specs.List.{slice_get}
 use Rattle.std.proofs.lemmas.Bool.{cases_lt}
 use Rattle.std.proofs.lemmas.List.{take_all}
 use Rattle.std.proofs.lemmas.Option.{slice_get_within}
-use Rattle.relmove_stages.specs.Runs.{IsOnStage}
+use Rattle.relmove_stages.specs.Runs.{IsOnStage, IsReached}
 use Rattle.relmove_stages.specs.StageActions.{Does, IsAfter, IsDone, IsReady, LeadsTo, MayDo, StageAction, tree_action}
 use Rattle.relmove_trees.specs.FileTrees.{Tree}
 use Rattle.relmove_trees.specs.TreeActions.{Acts}
@@ -107,13 +107,6 @@ holds_on actions start D becomes stays (suc k) i action tree at less within is =
 
 -- ---- on the way through a stage
 
--- the first i actions are done, and maybe more
-pub record IsReached (actions : List StageAction) (start : Tree) (i : ℕ) (tree : Tree) : Type 0 where
-  pub done : ℕ
-  pub from : i ≤ done
-  pub within : done ≤ length actions
-  pub is : IsAfter (take done actions) start tree
-
 pub on_stage : (actions : List StageAction) (start : Tree) (i : ℕ) (tree : Tree) → IsReached actions start i tree
     → IsOnStage actions start tree
 on_stage actions start i tree reached = record { done = reached.done; within = reached.within; is = reached.is }
@@ -126,6 +119,14 @@ reached-all actions start i tree all reached =
 
 pub on_stage-none : (actions : List StageAction) (start tree : Tree) → tree ≡ start → IsOnStage actions start tree
 on_stage-none actions start tree is = record { done = 0; within = omega arith; is = is }
+
+-- the first i actions are done, and the first k, and maybe more
+pub record IsPast (actions : List StageAction) (start : Tree) (k i : ℕ) (tree : Tree) : Type 0 where
+  pub done : ℕ
+  pub least : k ≤ done
+  pub from : i ≤ done
+  pub within : done ≤ length actions
+  pub is : IsAfter (take done actions) start tree
 
 module _ (actions : List StageAction) (start : Tree) (stage : IsStage actions start) (i : ℕ) (action : StageAction)
     (at : slice_get actions i ≡ Some action) where
@@ -183,3 +184,50 @@ module _ (actions : List StageAction) (start : Tree) (stage : IsStage actions st
     | inl (ready, same) ↦ inl ready
     | inr (done, less) ↦ inr done
   ]
+
+  -- as many are done as before, or one more
+  pub past-next : (k : ℕ) (old new : Tree) → IsPast actions start k i old → Does action old new
+      → IsPast actions start k (suc i) new
+  past-next k old new past does =
+      by (next_or_done old (record { done = past.done; from = past.from; within = past.within; is = past.is }))
+    where
+      by : (IsReady action old × (past.done ≡ i)) ⊎ (IsDone action old × (i < past.done)) → IsPast actions start k (suc i) new
+      by (inl (ready, same)) = record {
+        done = suc i;
+        least = let least = past.least in omega (arith, least, same);
+        from = omega arith;
+        within = let within = slice_get_within actions i action at in omega (arith, within);
+        is = IsAfter-next actions i action start old new at (subst (λ k. IsAfter (take k actions) start old) same past.is)
+            (does.acts ready);
+      }
+      by (inr (done, less)) = record {
+        done = past.done;
+        least = past.least;
+        from = omega (arith, less);
+        within = past.within;
+        is = subst (IsAfter (take past.done actions) start) (sym (does.stays done)) past.is;
+      }
+
+  pub past-may : (k : ℕ) (old new : Tree) → IsPast actions start k i old → MayDo action old new → IsReached actions start k new
+  past-may k old new past may =
+      by (next_or_done old (record { done = past.done; from = past.from; within = past.within; is = past.is }))
+    where
+      stays : new ≡ old → IsReached actions start k new
+      stays same = record {
+        done = past.done;
+        from = past.least;
+        within = past.within;
+        is = subst (IsAfter (take past.done actions) start) (sym same) past.is;
+      }
+
+      by : (IsReady action old × (past.done ≡ i)) ⊎ (IsDone action old × (i < past.done)) → IsReached actions start k new
+      by (inl (ready, same)) = elim (may.acts ready) [
+        | inl nothing ↦ stays nothing
+        | inr acts ↦ record {
+          done = suc i;
+          from = let least = past.least in omega (arith, least, same);
+          within = let within = slice_get_within actions i action at in omega (arith, within);
+          is = IsAfter-next actions i action start old new at (subst (λ k. IsAfter (take k actions) start old) same past.is) acts;
+        }
+      ]
+      by (inr (done, less)) = stays (may.stays done)

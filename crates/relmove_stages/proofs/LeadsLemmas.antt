@@ -1,5 +1,5 @@
 -- What a run requires makes each of its stages one that tells how far it is.
-use Rattle.std.proofs.Common.{◌≡◌, ◌⊎◌, inl, inr, ◌<◌, ℕ, List, map, Some, None, refl, sym, subst, arith}
+use Rattle.std.proofs.Common.{◌≡◌, inl, inr, ◌<◌, ℕ, List, map, Some, None, refl, sym, subst, arith}
 use Rattle.std.specs.List.{slice_get}
 use Rattle.std.proofs.Common.{String, length}
 use Rattle.std.proofs.lemmas.List.{take_all}
@@ -11,7 +11,7 @@ use Rattle.relmove_journal.specs.declared.work.Stage.{Stage}
 use Rattle.relmove_journal.specs.declared.work.Stage.TheVariants.{Writing, Staging, Making, Placing, Cleaning, Unplacing, Unmaking, Unstaging, Erasing}
 use Rattle.relmove_journal.specs.declared.work.TextFile.{TextFile}
 use Rattle.relmove_journal.specs.declared.work.Work.{Work}
-use Rattle.relmove_stages.specs.Runs.{AreAllApart, BeginsAt, CanBegin, CanEnd, DeepestFirst, EndsFrom, HasOldTexts, IsAllDone, IsAtStage, IsOnStage, IsStageDone, Leads, Trees, left_place}
+use Rattle.relmove_stages.specs.Runs.{AreAllApart, BeginsAt, CanBegin, CanEnd, DeepestFirst, EndsFrom, HasOldTexts, IsAtStage, IsOnStage, IsStageDone, Leads, Trees, left_place}
 use Rattle.relmove_stages.specs.StageActions.{IsAfter, IsDone, IsReady, LeadsTo, StageAction, Clears, place_of, tree_action}
 use Rattle.relmove_stages.specs.Stages.{back, cleans, makes, next_stage, removes, removes_part, stage_actions, stage_back, takes, undone}
 use Rattle.relmove_stages.proofs.ActionLemmas.{Clears-stays, IsBackable, IsUndone, Loses, Makes-stays, Takes-stays, done-becomes, none-stays}
@@ -159,7 +159,7 @@ whole-end actions start end backable whole leads =
 
 -- ---- a run
 
-next_is : (one next : Stage) → Some one ≡ Some next → one ≡ next
+pub next_is : (one next : Stage) → Some one ≡ Some next → one ≡ next
 next_is one next some = cc some
 
 module _ (work : Work) (trees : Trees) where
@@ -175,32 +175,6 @@ module _ (work : Work) (trees : Trees) where
   ends-before Unmaking next tree some ends = subst (λ (s : Stage). EndsFrom work trees s tree) (sym (next_is Unstaging next some)) ends
   ends-before Unstaging next tree some ends = subst (λ (s : Stage). EndsFrom work trees s tree) (sym (next_is Erasing next some)) ends
   ends-before Erasing next tree some ends = absurd (cc some)
-
-  -- a run that turns back ends in the tree before
-  pub ends-back : (stage next : Stage) (tree : Tree) → stage_back stage ≡ Some next → EndsFrom work trees next tree
-      → tree ≡ trees.before
-  ends-back Writing next tree some ends = subst (λ (s : Stage). EndsFrom work trees s tree) (sym (next_is Writing next some)) ends
-  ends-back Staging next tree some ends = subst (λ (s : Stage). EndsFrom work trees s tree) (sym (next_is Unstaging next some)) ends
-  ends-back Making next tree some ends = subst (λ (s : Stage). EndsFrom work trees s tree) (sym (next_is Unmaking next some)) ends
-  ends-back Placing next tree some ends = subst (λ (s : Stage). EndsFrom work trees s tree) (sym (next_is Unplacing next some)) ends
-  ends-back Cleaning next tree some ends = absurd (cc some)
-  ends-back Unplacing next tree some ends = subst (λ (s : Stage). EndsFrom work trees s tree) (sym (next_is Unplacing next some)) ends
-  ends-back Unmaking next tree some ends = subst (λ (s : Stage). EndsFrom work trees s tree) (sym (next_is Unmaking next some)) ends
-  ends-back Unstaging next tree some ends = subst (λ (s : Stage). EndsFrom work trees s tree) (sym (next_is Unstaging next some)) ends
-  ends-back Erasing next tree some ends = subst (λ (s : Stage). EndsFrom work trees s tree) (sym (next_is Erasing next some)) ends
-
-  -- the tree in which a run ends is one of two
-  pub ends-one_of : (stage : Stage) (tree : Tree) → EndsFrom work trees stage tree
-      → (tree ≡ trees.before) ⊎ IsAllDone work trees tree
-  ends-one_of Writing tree ends = inl ends
-  ends-one_of Staging tree ends = inr ends
-  ends-one_of Making tree ends = inr ends
-  ends-one_of Placing tree ends = inr ends
-  ends-one_of Cleaning tree ends = inr ends
-  ends-one_of Unplacing tree ends = inl ends
-  ends-one_of Unmaking tree ends = inl ends
-  ends-one_of Unstaging tree ends = inl ends
-  ends-one_of Erasing tree ends = inl ends
 
 module _ (work : Work) (trees : Trees) (leads : Leads work trees) where
   staged-whole : IsWholeTree trees.staged

@@ -3,6 +3,7 @@ pub mod ChainLemmas
 pub mod BackLemmas
 pub mod PartsLemmas
 pub mod LeadsLemmas
+pub mod OrderLemmas
 pub mod StateLemmas
 pub mod MachineLemmas
 pub mod BeginLemmas

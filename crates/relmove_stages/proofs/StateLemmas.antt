@@ -1,9 +1,11 @@
 -- How calls go on, and what they leave.
-use Rattle.std.proofs.Common.{◌≡◌, ◌⊎◌, inl, inr, Option, Some, sym, ◌∙◌, subst, arith}
+use Rattle.std.proofs.Common.{◌≡◌, ◌⊎◌, inl, inr, Option, Some, None, refl, sym, ◌∙◌, subst, arith}
 use Rattle.relmove_journal.specs.declared.work.Stage.{Stage}
 use Rattle.relmove_journal.specs.declared.work.Work.{Work}
-use Rattle.relmove_stages.specs.Runs.{Guards, IsAtStage, IsOnTheWay, IsTreeOf, Trees}
-use Rattle.relmove_stages.specs.States.{Disk, IsOneCall, Leaves, State}
+use Rattle.relmove_stages.specs.Runs.{Guards, IsAtStage, IsOnTheWayFrom, IsTreeFrom, Trees}
+use Rattle.relmove_stages.specs.Stages.{ComesTo}
+use Rattle.relmove_stages.specs.States.{Disk, IsOneCall, Journal, Leaves, State, journal_of}
+use Rattle.relmove_stages.proofs.OrderLemmas.{comes-on, ends-from}
 
 pub Leaves-none : (P : Disk → Type 0) (state : State) → Leaves P state state
 Leaves-none P state = record {
@@ -30,70 +32,84 @@ Leaves-then P Q old mid new one two to = record {
   clean = λ clean. one.clean (two.clean clean);
 }
 
--- ---- a run
+-- ---- calls that leave only disks that have P
 
-module _ (work : Work) (trees : Trees) where
-  pub way-at : (disk : Disk) (journal : Option Stage) → disk.journal ≡ journal → IsTreeOf work trees journal disk.tree
-      → IsOnTheWay work trees disk
-  way-at disk journal is at = subst (λ (j : Option Stage). IsTreeOf work trees j disk.tree) (sym is) at
-
-  pub guards-none : (state : State) → IsOnTheWay work trees state.disk → Guards work trees state state
-  guards-none state way = record { way = way; leaves = Leaves-none (IsOnTheWay work trees) state }
+module _ (P : Disk → Type 0) where
+  pub guards-none : (state : State) → P state.disk → Guards P state state
+  guards-none state way = record { way = way; leaves = Leaves-none P state }
 
   -- one call more
-  pub guards-call : (old mid new : State) → Guards work trees old mid → IsOneCall mid new → IsOnTheWay work trees new.disk
-      → Guards work trees old new
+  pub guards-call : (old mid new : State) → Guards P old mid → IsOneCall mid new → P new.disk → Guards P old new
   guards-call old mid new guards call way = record {
     way = way;
-    leaves = Leaves-then (IsOnTheWay work trees) (λ c. (c ≡ mid.disk) ⊎ (c ≡ new.disk)) old mid new guards.leaves call
+    leaves = Leaves-then P (λ c. (c ≡ mid.disk) ⊎ (c ≡ new.disk)) old mid new guards.leaves call
         (λ c is. elim is [
-          | inl before ↦ subst (IsOnTheWay work trees) (sym before) guards.way
-          | inr after ↦ subst (IsOnTheWay work trees) (sym after) way
+          | inl before ↦ subst P (sym before) guards.way
+          | inr after ↦ subst P (sym after) way
         ]);
   }
 
-  -- several calls more
-  pub guards-then : (old mid new : State) → Guards work trees old mid → Guards work trees mid new → Guards work trees old new
-  guards-then old mid new one two = record {
-    way = two.way;
-    leaves = Leaves-then (IsOnTheWay work trees) (IsOnTheWay work trees) old mid new one.leaves two.leaves (λ c way. way);
+  -- several calls more, which leave only disks that have Q
+  pub guards-then : (Q : Disk → Type 0) (old mid new : State) → ((c : Disk) → Q c → P c) → Guards P old mid → Guards Q mid new
+      → Guards P old new
+  guards-then Q old mid new to one two = record {
+    way = to new.disk two.way;
+    leaves = Leaves-then P Q old mid new one.leaves two.leaves to;
   }
 
-  -- the disk after a call that leaves the tree
-  pub way-journal : (old new : Disk) (journal : Option Stage) → new.tree ≡ old.tree
-      → (new.journal ≡ old.journal) ⊎ (new.journal ≡ journal) → IsOnTheWay work trees old → IsTreeOf work trees journal old.tree
-      → IsOnTheWay work trees new
-  way-journal old new journal same (inl stays) way at =
-      way-at new old.journal stays (subst (IsTreeOf work trees old.journal) (sym same) way)
-  way-journal old new journal same (inr put) way at =
-      way-at new journal put (subst (IsTreeOf work trees journal) (sym same) at)
+  -- what has Q has P
+  pub guards-to : (Q : Disk → Type 0) (old new : State) → ((c : Disk) → Q c → P c) → Guards Q old new → Guards P old new
+  guards-to Q old new to guards = record {
+    way = to new.disk guards.way;
+    leaves = Leaves-then P Q old old new (Leaves-none P old) guards.leaves to;
+  }
 
-  -- at each moment the disk was on the way, if it was at the first
-  pub guards-moment : (old new : State) → Guards work trees old new
-      → ((c : Disk) → old.left_since old.moment c → old.may_leave c) → ((c : Disk) → old.may_leave c → IsOnTheWay work trees c)
-      → (c : Disk) → new.left_since old.moment c → IsOnTheWay work trees c
-  guards-moment old new guards now way c left = elim (guards.leaves.any_moment old.moment c (omega arith) left) [
-    | inl before ↦ way c (now c before)
-    | inr (inl may) ↦ way c may
-    | inr (inr on) ↦ on
+  -- what might be left at a moment was there before, or has P
+  pub guards-moment : (old new : State) → Guards P old new → ((c : Disk) → old.left_since old.moment c → old.may_leave c)
+      → (c : Disk) → new.left_since old.moment c → old.may_leave c ⊎ P c
+  guards-moment old new guards now c left = elim (guards.leaves.any_moment old.moment c (omega arith) left) [
+    | inl before ↦ inl (now c before)
+    | inr may ↦ may
   ]
 
-  -- a call that changes nothing
-  pub guards-same : (old mid new : State) → Guards work trees old mid → IsOneCall mid new → new.disk ≡ mid.disk
-      → Guards work trees old new
-  guards-same old mid new guards call same =
-      guards-call old mid new guards call (subst (IsOnTheWay work trees) (sym same) guards.way)
+-- ---- a run
+
+module _ (work : Work) (trees : Trees) (first : Stage) where
+  pub way-at : (disk : Disk) (journal : Option Journal) → disk.journal ≡ journal → IsTreeFrom work trees first journal disk.tree
+      → IsOnTheWayFrom work trees first disk
+  way-at disk journal is at = subst (λ (j : Option Journal). IsTreeFrom work trees first j disk.tree) (sym is) at
+
+  -- the disk after a call that leaves the tree
+  pub way-journal : (old new : Disk) (journal : Option Journal) → new.tree ≡ old.tree
+      → (new.journal ≡ old.journal) ⊎ (new.journal ≡ journal) → IsOnTheWayFrom work trees first old
+      → IsTreeFrom work trees first journal old.tree → IsOnTheWayFrom work trees first new
+  way-journal old new journal same (inl stays) way at =
+      way-at new old.journal stays (subst (IsTreeFrom work trees first old.journal) (sym same) way)
+  way-journal old new journal same (inr put) way at =
+      way-at new journal put (subst (IsTreeFrom work trees first journal) (sym same) at)
 
   -- a call that goes on in a stage
-  pub guards-act : (stage : Stage) (old mid new : State) → Guards work trees old mid → IsOneCall mid new
-      → mid.disk.journal ≡ Some stage → new.disk.journal ≡ mid.disk.journal → IsAtStage work trees stage new.disk.tree
-      → Guards work trees old new
-  guards-act stage old mid new guards call is same at =
-      guards-call old mid new guards call (way-at new.disk (Some stage) (same ∙ is) at)
+  pub guards-act : (stage : Stage) (old mid new : State) → ComesTo first stage → Guards (IsOnTheWayFrom work trees first) old mid
+      → IsOneCall mid new → mid.disk.journal ≡ Some (journal_of work stage) → new.disk.journal ≡ mid.disk.journal
+      → IsAtStage work trees stage new.disk.tree → Guards (IsOnTheWayFrom work trees first) old new
+  guards-act stage old mid new comes guards call is same at =
+      guards-call (IsOnTheWayFrom work trees first) old mid new guards call
+      (way-at new.disk (Some (journal_of work stage)) (same ∙ is) (refl, comes, at))
 
   -- a call that puts another journal, or removes it
-  pub guards-put : (journal : Option Stage) (old mid new : State) → Guards work trees old mid → IsOneCall mid new
-      → new.disk.tree ≡ mid.disk.tree → (new.disk.journal ≡ mid.disk.journal) ⊎ (new.disk.journal ≡ journal)
-      → IsTreeOf work trees journal mid.disk.tree → Guards work trees old new
+  pub guards-put : (journal : Option Journal) (old mid new : State) → Guards (IsOnTheWayFrom work trees first) old mid
+      → IsOneCall mid new → new.disk.tree ≡ mid.disk.tree
+      → (new.disk.journal ≡ mid.disk.journal) ⊎ (new.disk.journal ≡ journal)
+      → IsTreeFrom work trees first journal mid.disk.tree → Guards (IsOnTheWayFrom work trees first) old new
   guards-put journal old mid new guards call same outcome at =
-      guards-call old mid new guards call (way-journal mid.disk new.disk journal same outcome guards.way at)
+      guards-call (IsOnTheWayFrom work trees first) old mid new guards call
+      (way-journal mid.disk new.disk journal same outcome guards.way at)
+
+  -- what is on the way from a later stage is on the way from the first
+  pub way-later : (stage : Stage) → ComesTo first stage → (disk : Disk) → IsOnTheWayFrom work trees stage disk
+      → IsOnTheWayFrom work trees first disk
+  way-later stage comes disk way = way-at disk disk.journal refl (by disk.journal way)
+    where
+      by : (journal : Option Journal) → IsTreeFrom work trees stage journal disk.tree → IsTreeFrom work trees first journal disk.tree
+      by None ends = ends-from work trees first stage disk.tree comes ends
+      by (Some later) (same, comes_2, at) = (same, comes-on first stage later.stage comes comes_2, at)

@@ -8,8 +8,8 @@ use Rattle.relmove_journal.specs.declared.work.Stage.TheVariants.{Writing, Stagi
 use Rattle.relmove_journal.specs.declared.work.TextFile.{TextFile}
 use Rattle.relmove_journal.specs.declared.work.Work.{Work}
 use Rattle.relmove_stages.specs.StageActions.{HasPart, HasText, IsAfter, IsText, LeadsTo, StageAction, place_of}
-use Rattle.relmove_stages.specs.Stages.{stage_actions}
-use Rattle.relmove_stages.specs.States.{Disk, Leaves, State}
+use Rattle.relmove_stages.specs.Stages.{ComesTo, stage_actions, stage_back}
+use Rattle.relmove_stages.specs.States.{Disk, Journal, Leaves, State, journal_of}
 use Rattle.relmove_trees.specs.FileTrees.{CanTake, IsUnder, IsWholeTree, Place, Tree}
 use Rattle.relmove_trees.specs.TreeActions as tree_actions
 use Rattle.relmove_trees.specs.TreeActions.{LeadTo}
@@ -67,6 +67,23 @@ abbrev pub IsAtStage : Work → Trees → Stage → Tree → Type 0
 IsAtStage work trees stage tree =
     (start : Tree) × BeginsAt work trees stage start × IsOnStage (stage_actions work stage) start tree
 
+-- at least so many of the first actions are done, and no other but those that follow
+pub record IsReached (actions : List StageAction) (start : Tree) (least : ℕ) (tree : Tree) : Type 0 where
+  pub done : ℕ
+  pub from : least ≤ done
+  pub within : done ≤ length actions
+  pub is : IsAfter (take done actions) start tree
+
+-- at least so many of the first actions of the stage are done, and no other but those that follow
+abbrev pub IsStageReached : Work → Trees → Stage → ℕ → Tree → Type 0
+IsStageReached work trees stage least tree =
+    (start : Tree) × BeginsAt work trees stage start × IsReached (stage_actions work stage) start least tree
+
+-- if the journal is of this work at the stage, as many of its first actions are done as before, or more
+abbrev pub KeepsDone : Work → Trees → Stage → Tree → Disk → Type 0
+KeepsDone work trees stage before disk = disk.journal ≡ Some (journal_of work stage)
+    → (least : ℕ) → IsStageReached work trees stage least before → IsStageReached work trees stage least disk.tree
+
 -- all actions of the stage are done
 abbrev pub IsStageDone : Work → Trees → Stage → Tree → Type 0
 IsStageDone work trees stage tree =
@@ -88,19 +105,31 @@ EndsFrom work trees Unmaking tree = tree ≡ trees.before
 EndsFrom work trees Unstaging tree = tree ≡ trees.before
 EndsFrom work trees Erasing tree = tree ≡ trees.before
 
--- the tree goes with what the journal says
-abbrev pub IsTreeOf : Work → Trees → Option Stage → Tree → Type 0
-IsTreeOf work trees None tree = (tree ≡ trees.before) ⊎ IsAllDone work trees tree
-IsTreeOf work trees (Some stage) tree = IsAtStage work trees stage tree
+-- the tree goes with what the journal says in a run that went on, or back, from the first stage
+abbrev pub IsTreeFrom : Work → Trees → Stage → Option Journal → Tree → Type 0
+IsTreeFrom work trees first None tree = EndsFrom work trees first tree
+IsTreeFrom work trees first (Some journal) tree =
+    (journal ≡ journal_of work journal.stage) × ComesTo first journal.stage × IsAtStage work trees journal.stage tree
 
--- what is left is on the way: the first actions of the journal's stage are done, and no other
+-- what is left is on the way from the first stage: the journal is of this work, and says this stage, or a later one on the same
+-- way, and the first actions of the journal's stage are done, and no other; or no journal is there, and the run ended
+abbrev pub IsOnTheWayFrom : Work → Trees → Stage → Disk → Type 0
+IsOnTheWayFrom work trees first disk = IsTreeFrom work trees first disk.journal disk.tree
+
+-- what is left is the disk before, or on the way back from the stage
+abbrev pub IsOnTheWayBack : Work → Trees → Stage → Disk → Disk → Type 0
+IsOnTheWayBack work trees stage before disk =
+    (disk ≡ before) ⊎ ((first : Stage) × (stage_back stage ≡ Some first) × IsOnTheWayFrom work trees first disk)
+
+-- what is left of a run from its begin: new texts come, or everything goes to its new path, or the new texts go again
 abbrev pub IsOnTheWay : Work → Trees → Disk → Type 0
-IsOnTheWay work trees disk = IsTreeOf work trees disk.journal disk.tree
+IsOnTheWay work trees disk = IsOnTheWayFrom work trees Writing disk
+    ⊎ (IsOnTheWayFrom work trees Staging disk ⊎ IsOnTheWayFrom work trees Erasing disk)
 
--- the calls between two states leave what is on the way
-pub record Guards (work : Work) (trees : Trees) (old new : State) : Type 0 where
-  pub way : IsOnTheWay work trees new.disk
-  pub leaves : Leaves (IsOnTheWay work trees) old new
+-- P holds of the disk after the calls between two states, and of what they leave
+pub record Guards (P : Disk → Type 0) (old new : State) : Type 0 where
+  pub way : P new.disk
+  pub leaves : Leaves P old new
 
 -- ---- what a run requires
 

@@ -72,20 +72,22 @@ IsDone (Clears place) tree = (tree place ≡ None) ⊎ HasBelow tree place
 IsDone (Removes place digest) tree = tree place ≡ None
 IsDone (RemovesPart place digest) tree = tree place ≡ None
 
--- an action that is ready is done, and one that is done changes nothing
+-- an action that is ready is done, one that is done changes nothing, and no other can be done
 pub record Does (action : StageAction) (old new : Tree) : Type 0 where
+  pub can : IsReady action old ⊎ IsDone action old
   pub acts : IsReady action old → Acts (tree_action action) old new
   pub stays : IsDone action old → new ≡ old
 
--- of an action that is ready nothing or all is done, and one that is done changes nothing
+-- of an action that is ready nothing or all is done, one that is done changes nothing, and so does any other
 pub record MayDo (action : StageAction) (old new : Tree) : Type 0 where
+  pub only : (new ≡ old) ⊎ IsReady action old
   pub acts : IsReady action old → (new ≡ old) ⊎ Acts (tree_action action) old new
   pub stays : IsDone action old → new ≡ old
 
--- of a new text nothing is written, or a part, or all of it, and nothing else changes
+-- of a new text nothing is written; or, where nothing is and a directory is above, a part, or all of it; and nothing else changes
 abbrev pub MayWrite : Place → TextDigest → Tree → Tree → Type 0
-MayWrite place digest old new =
-    (new ≡ old) ⊎ ((bytes : List ℕ) × IsPart digest bytes × Acts (tree_actions.Write place bytes) old new)
+MayWrite place digest old new = (new ≡ old)
+    ⊎ (CanTake old place × (bytes : List ℕ) × IsPart digest bytes × Acts (tree_actions.Write place bytes) old new)
 
 -- the tree is one after the actions
 abbrev pub IsAfter : List StageAction → Tree → Tree → Type 0

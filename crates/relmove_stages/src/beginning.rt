@@ -1,10 +1,9 @@
 //! A whole run, from its begin.
-ghost use Rattle.std.specs.Prelude.{◌≡◌, ◌<◌, ℕ, Some, None, IsTrue, IfErr, OnOk, OnErr};
-ghost use Rattle.relmove_journal.specs.declared.work.Stage.TheVariants.{Staging, Writing};
-ghost use Rattle.relmove_stages.specs.Halts.{GoesBack, IsRefused};
-ghost use Rattle.relmove_stages.specs.Runs.{CanInitiate, Guards, IsAllDone, IsAtStage, IsOnTheWay, Leads, Trees};
-ghost use Rattle.relmove_stages.specs.Stages.{stage_back};
-ghost use Rattle.relmove_stages.specs.States.{Disk};
+ghost use Rattle.std.specs.Prelude.{◌≡◌, ◌⊎◌, ◌<◌, ◌+◌, ℕ, Some, None, IsTrue, IfErr, OnOk, OnErr};
+ghost use Rattle.relmove_journal.specs.declared.work.Stage.TheVariants.{Erasing, Staging, Writing};
+ghost use Rattle.relmove_stages.specs.Halts.{IsAfterHalt};
+ghost use Rattle.relmove_stages.specs.Runs.{CanInitiate, Guards, IsAllDone, IsAtStage, IsOnTheWay, IsOnTheWayFrom, Leads, Trees};
+ghost use Rattle.relmove_stages.specs.States.{Disk, IsEndKnown, journal_of};
 
 use crate::executor::Executor;
 use crate::initiator::Initiator;
@@ -37,19 +36,19 @@ pub fn carry_out<E: Initiator>(executor: &mut E, work: &Work) -> Result<(), Halt
     // all actions are done
     ensures ends { OnOk result (IsTrue (E.state executor.new).is_clean → ((E.state executor.new).disk.journal ≡ None)
         × IsAllDone work.now trees (E.state executor.new).disk.tree) }
-    // the tree is the one before
-    ensures returns { IfErr result (λ halt. IsRefused halt → IsTrue (E.state executor.new).is_clean
-        → ((E.state executor.new).disk.journal ≡ None) × ((E.state executor.new).disk.tree ≡ trees.before)) }
-    // without a journal the tree is the one before, unless the run stopped in the middle
-    ensures whole { IfErr result (λ halt. GoesBack halt → IsTrue (E.state executor.new).is_clean
-        → (E.state executor.new).disk.journal ≡ None → (E.state executor.new).disk.tree ≡ trees.before) }
-    // after a failure too the first actions of the journal's stage are done, and no other
+    // and so it is after a loss of power
+    ensures lasts { OnOk result (IsTrue (E.state executor.new).is_clean → (c : Disk) → (E.state executor.new).may_leave c
+        → IsAllDone work.now trees c.tree) }
+    // how it stopped says what is there
+    ensures halts { IfErr result (λ halt. IsTrue (E.state executor.new).is_clean
+        → IsAfterHalt work.now trees ((E.state executor.old).faults + 1) (E.state executor.new) halt) }
+    // after a failure too the first actions of the journal's stage are done, and no other, and it is no stage that takes moves back
     ensures guards { IsTrue (E.state executor.new).is_clean
-        → Guards work.now trees (E.state executor.old) (E.state executor.new) }
-    // so they are after a crash at any moment
+        → Guards (IsOnTheWay work.now trees) (E.state executor.old) (E.state executor.new) }
+    // so it is after a crash at any moment, unless that leaves what might have been left before
     ensures any_moment { IsTrue (E.state executor.new).is_clean
-        → ((c : Disk) → (E.state executor.old).may_leave c → IsOnTheWay work.now trees c)
-        → (c : Disk) → (E.state executor.new).left_since (E.state executor.old).moment c → IsOnTheWay work.now trees c }
+        → (c : Disk) → (E.state executor.new).left_since (E.state executor.old).moment c
+        → (E.state executor.old).may_leave c ⊎ IsOnTheWay work.now trees c }
     // it fails only if a call failed
     ensures cause { OnErr result (IsTrue (E.state executor.new).is_clean
         → (E.state executor.old).faults < (E.state executor.new).faults) }
@@ -67,13 +66,15 @@ pub fn carry_out<E: Initiator>(executor: &mut E, work: &Work) -> Result<(), Halt
 fn write_texts<E: Initiator>(executor: &mut E, work: &Work) -> Result<(), E::Fault>
     ghost trees: { Trees }
     requires texts { IsTrue (E.state executor.old).is_clean → CanInitiate work.now (E.texts executor.old) trees }
-    requires journal { IsTrue (E.state executor.old).is_clean → (E.state executor.old).disk.journal ≡ Some Writing }
+    requires journal { IsTrue (E.state executor.old).is_clean
+        → (E.state executor.old).disk.journal ≡ Some (journal_of work.now Writing) }
     requires tree { IsTrue (E.state executor.old).is_clean → (E.state executor.old).disk.tree ≡ trees.before }
-    ensures journal { IsTrue (E.state executor.new).is_clean → (E.state executor.new).disk.journal ≡ Some Writing }
+    ensures journal { IsTrue (E.state executor.new).is_clean
+        → (E.state executor.new).disk.journal ≡ Some (journal_of work.now Writing) }
     ensures at { IsTrue (E.state executor.new).is_clean → IsAtStage work.now trees Writing (E.state executor.new).disk.tree }
     ensures written { OnOk result (IsTrue (E.state executor.new).is_clean → (E.state executor.new).disk.tree ≡ trees.written) }
     ensures guards { IsTrue (E.state executor.new).is_clean
-        → Guards work.now trees (E.state executor.old) (E.state executor.new) }
+        → Guards (IsOnTheWayFrom work.now trees Writing) (E.state executor.old) (E.state executor.new) }
     ensures cause { OnErr result (IsTrue (E.state executor.new).is_clean
         → (E.state executor.old).faults < (E.state executor.new).faults) }
 {
@@ -90,16 +91,18 @@ fn write_texts<E: Initiator>(executor: &mut E, work: &Work) -> Result<(), E::Fau
 fn go_on<E: Executor>(executor: &mut E, work: &Work) -> Result<(), Halt<E::Fault>>
     ghost trees: { Trees }
     requires leads { IsTrue (E.state executor.old).is_clean → Leads work.now trees }
+    requires journal { IsTrue (E.state executor.old).is_clean
+        → (E.state executor.old).disk.journal ≡ Some (journal_of work.now Writing) }
     requires way { IsTrue (E.state executor.old).is_clean → IsOnTheWay work.now trees (E.state executor.old).disk }
     requires tree { IsTrue (E.state executor.old).is_clean → (E.state executor.old).disk.tree ≡ trees.written }
     ensures ends { OnOk result (IsTrue (E.state executor.new).is_clean → ((E.state executor.new).disk.journal ≡ None)
         × IsAllDone work.now trees (E.state executor.new).disk.tree) }
-    ensures returns { IfErr result (λ halt. IsRefused halt → IsTrue (E.state executor.new).is_clean
-        → ((E.state executor.new).disk.journal ≡ None) × ((E.state executor.new).disk.tree ≡ trees.before)) }
-    ensures whole { IfErr result (λ halt. GoesBack halt → IsTrue (E.state executor.new).is_clean
-        → (E.state executor.new).disk.journal ≡ None → (E.state executor.new).disk.tree ≡ trees.before) }
+    ensures lasts { OnOk result (IsTrue (E.state executor.new).is_clean → (c : Disk) → (E.state executor.new).may_leave c
+        → IsAllDone work.now trees c.tree) }
+    ensures halts { IfErr result (λ halt. IsTrue (E.state executor.new).is_clean
+        → IsAfterHalt work.now trees ((E.state executor.old).faults + 1) (E.state executor.new) halt) }
     ensures guards { IsTrue (E.state executor.new).is_clean
-        → Guards work.now trees (E.state executor.old) (E.state executor.new) }
+        → Guards (IsOnTheWay work.now trees) (E.state executor.old) (E.state executor.new) }
     ensures cause { OnErr result (IsTrue (E.state executor.new).is_clean
         → (E.state executor.old).faults < (E.state executor.new).faults) }
 {
@@ -116,14 +119,15 @@ fn go_on<E: Executor>(executor: &mut E, work: &Work) -> Result<(), Halt<E::Fault
 fn erase<E: Executor>(executor: &mut E, work: &Work, fault: E::Fault) -> Halt<E::Fault>
     ghost trees: { Trees }
     requires leads { IsTrue (E.state executor.old).is_clean → Leads work.now trees }
+    requires journal { IsTrue (E.state executor.old).is_clean
+        → ((E.state executor.old).disk.journal ≡ Some (journal_of work.now Writing))
+        ⊎ ((E.state executor.old).disk.journal ≡ Some (journal_of work.now Staging)) }
     requires way { IsTrue (E.state executor.old).is_clean → IsOnTheWay work.now trees (E.state executor.old).disk }
     requires tree { IsTrue (E.state executor.old).is_clean → (E.state executor.old).disk.tree ≡ trees.written }
-    ensures returns { IsRefused result → IsTrue (E.state executor.new).is_clean
-        → ((E.state executor.new).disk.journal ≡ None) × ((E.state executor.new).disk.tree ≡ trees.before) }
-    ensures whole { GoesBack result → IsTrue (E.state executor.new).is_clean
-        → (E.state executor.new).disk.journal ≡ None → (E.state executor.new).disk.tree ≡ trees.before }
+    ensures halts { IsTrue (E.state executor.new).is_clean
+        → IsAfterHalt work.now trees (E.state executor.old).faults (E.state executor.new) result }
     ensures guards { IsTrue (E.state executor.new).is_clean
-        → Guards work.now trees (E.state executor.old) (E.state executor.new) }
+        → Guards (IsOnTheWay work.now trees) (E.state executor.old) (E.state executor.new) }
 {
     if executor.enter(work, Stage::Erasing).is_err() {
         return Halt::Stopped(fault);
@@ -139,16 +143,15 @@ fn take_back<E: Executor>(
     fault: E::Fault,
 ) -> Halt<E::Fault>
     ghost trees: { Trees }
-    requires back { stage_back stage ≡ Some stage }
+    requires last { (stage ≡ Writing) ⊎ (stage ≡ Erasing) }
     requires leads { IsTrue (E.state executor.old).is_clean → Leads work.now trees }
-    requires journal { IsTrue (E.state executor.old).is_clean → (E.state executor.old).disk.journal ≡ Some stage }
+    requires journal { IsTrue (E.state executor.old).is_clean
+        → (E.state executor.old).disk.journal ≡ Some (journal_of work.now stage) }
     requires tree { IsTrue (E.state executor.old).is_clean → IsAtStage work.now trees stage (E.state executor.old).disk.tree }
-    ensures returns { IsRefused result → IsTrue (E.state executor.new).is_clean
-        → ((E.state executor.new).disk.journal ≡ None) × ((E.state executor.new).disk.tree ≡ trees.before) }
-    ensures whole { GoesBack result → IsTrue (E.state executor.new).is_clean
-        → (E.state executor.new).disk.journal ≡ None → (E.state executor.new).disk.tree ≡ trees.before }
+    ensures halts { IsTrue (E.state executor.new).is_clean
+        → IsAfterHalt work.now trees (E.state executor.old).faults (E.state executor.new) result }
     ensures guards { IsTrue (E.state executor.new).is_clean
-        → Guards work.now trees (E.state executor.old) (E.state executor.new) }
+        → Guards (IsOnTheWayFrom work.now trees stage) (E.state executor.old) (E.state executor.new) }
 {
     if finish(executor, work, stage).is_err() {
         return Halt::Left(fault);
@@ -159,14 +162,13 @@ fn take_back<E: Executor>(
 // Ends a run whose first journal may not be there.
 fn end_at_once<E: Executor>(executor: &mut E, work: &Work, fault: E::Fault) -> Halt<E::Fault>
     ghost trees: { Trees }
-    requires way { IsTrue (E.state executor.old).is_clean → IsOnTheWay work.now trees (E.state executor.old).disk }
+    requires known { IsTrue (E.state executor.old).is_clean → IsEndKnown (E.state executor.old) }
+    requires way { IsTrue (E.state executor.old).is_clean → IsOnTheWayFrom work.now trees Writing (E.state executor.old).disk }
     requires tree { IsTrue (E.state executor.old).is_clean → (E.state executor.old).disk.tree ≡ trees.before }
-    ensures returns { IsRefused result → IsTrue (E.state executor.new).is_clean
-        → ((E.state executor.new).disk.journal ≡ None) × ((E.state executor.new).disk.tree ≡ trees.before) }
-    ensures whole { GoesBack result → IsTrue (E.state executor.new).is_clean
-        → (E.state executor.new).disk.journal ≡ None → (E.state executor.new).disk.tree ≡ trees.before }
+    ensures halts { IsTrue (E.state executor.new).is_clean
+        → IsAfterHalt work.now trees (E.state executor.old).faults (E.state executor.new) result }
     ensures guards { IsTrue (E.state executor.new).is_clean
-        → Guards work.now trees (E.state executor.old) (E.state executor.new) }
+        → Guards (IsOnTheWayFrom work.now trees Writing) (E.state executor.old) (E.state executor.new) }
 {
     if executor.end(work).is_err() {
         return Halt::Left(fault);

@@ -1,10 +1,11 @@
 //! The order of the stages, and the actions of each. The same actions are done, say what a run would change, and say which
 //! directories have to be synced.
-ghost use Rattle.std.specs.Prelude.{◌≡◌, ◌<◌, ◌+◌, ◌^◌, List, ℕ, Option, Some, None, IfSome, map};
+ghost use Rattle.std.specs.Prelude.{◌≡◌, ◌<◌, ◌+◌, ◌^◌, List, ℕ, Option, Some, None, IfSome, map, reverse};
 ghost use Rattle.std.specs.List.{slice_get};
 ghost use Rattle.std.specs.Option.{option_map};
 ghost use Rattle.relmove_stages.specs.StageActions.{action_of};
-ghost use Rattle.relmove_stages.specs.Stages.{cleans, makes, next_stage, removes, removes_part, stage_actions, stage_back, takes, undone};
+ghost use Rattle.relmove_journal.specs.declared.work.Stage.TheVariants.{Cleaning, Erasing, Making, Placing, Staging, Unmaking, Unplacing, Unstaging, Writing};
+ghost use Rattle.relmove_stages.specs.Stages.{IsOfStage, cleans, directory_texts, file_texts, leftover_texts, makes, next_stage, path_texts, removes, removes_part, rename_texts, stage_actions, stage_back, stage_texts, takes, undone};
 
 use crate::action::Action;
 use relmove_actions::Rename;
@@ -68,6 +69,10 @@ pub fn stage_back(stage: Stage) -> Option<Stage>
 pub fn action_at(work: &Work, stage: Stage, number: usize) -> Option<Action<'_>>
     // what the stage does, in order
     ensures listed { option_map action_of result ≡ slice_get (stage_actions work.now stage) number }
+    // its paths are spelled as the work spells them
+    ensures spelled { option_map path_texts result ≡ slice_get (stage_texts work.now stage) number }
+    // its kind is one of the stage, and a part is removed by its number
+    ensures kind { IfSome result (λ action. IsOfStage stage number action) }
     // the next number fits too
     ensures fits { IfSome result (λ action. number + 1 < 2 ^ 64) }
 {
@@ -87,6 +92,8 @@ pub fn action_at(work: &Work, stage: Stage, number: usize) -> Option<Action<'_>>
 // What gives a thing its staging name, or its new path.
 fn carry_at(renames: &[Rename], number: usize) -> Option<Action<'_>>
     ensures listed { option_map action_of result ≡ slice_get (map takes renames.now) number }
+    ensures spelled { option_map path_texts result ≡ slice_get (map rename_texts renames.now) number }
+    ensures kind { IfSome result (λ action. IsOfStage Staging number action × IsOfStage Placing number action) }
     ensures fits { IfSome result (λ action. number + 1 < 2 ^ 64) }
 {
     if number >= renames.len() {
@@ -98,6 +105,8 @@ fn carry_at(renames: &[Rename], number: usize) -> Option<Action<'_>>
 // What gives a thing that is at its new path its staging name again.
 fn unplace_at(renames: &[Rename], number: usize) -> Option<Action<'_>>
     ensures listed { option_map action_of result ≡ slice_get (undone (map takes renames.now)) number }
+    ensures spelled { option_map path_texts result ≡ slice_get (reverse (map rename_texts renames.now)) number }
+    ensures kind { IfSome result (λ action. IsOfStage Unplacing number action) }
     ensures fits { IfSome result (λ action. number + 1 < 2 ^ 64) }
 {
     if number >= renames.len() {
@@ -109,6 +118,8 @@ fn unplace_at(renames: &[Rename], number: usize) -> Option<Action<'_>>
 // What takes a thing that has its staging name back to its old path.
 fn unstage_at(renames: &[Rename], number: usize) -> Option<Action<'_>>
     ensures listed { option_map action_of result ≡ slice_get (undone (map takes renames.now)) number }
+    ensures spelled { option_map path_texts result ≡ slice_get (reverse (map rename_texts renames.now)) number }
+    ensures kind { IfSome result (λ action. IsOfStage Unstaging number action) }
     ensures fits { IfSome result (λ action. number + 1 < 2 ^ 64) }
 {
     if number >= renames.len() {
@@ -120,6 +131,8 @@ fn unstage_at(renames: &[Rename], number: usize) -> Option<Action<'_>>
 // What makes a directory.
 fn make_at(paths: &[String], number: usize) -> Option<Action<'_>>
     ensures listed { option_map action_of result ≡ slice_get (map makes paths.now) number }
+    ensures spelled { option_map path_texts result ≡ slice_get (map directory_texts paths.now) number }
+    ensures kind { IfSome result (λ action. IsOfStage Making number action) }
     ensures fits { IfSome result (λ action. number + 1 < 2 ^ 64) }
 {
     if number >= paths.len() {
@@ -131,6 +144,8 @@ fn make_at(paths: &[String], number: usize) -> Option<Action<'_>>
 // What removes a directory that was made.
 fn unmake_at(paths: &[String], number: usize) -> Option<Action<'_>>
     ensures listed { option_map action_of result ≡ slice_get (undone (map makes paths.now)) number }
+    ensures spelled { option_map path_texts result ≡ slice_get (reverse (map directory_texts paths.now)) number }
+    ensures kind { IfSome result (λ action. IsOfStage Unmaking number action) }
     ensures fits { IfSome result (λ action. number + 1 < 2 ^ 64) }
 {
     if number >= paths.len() {
@@ -142,6 +157,8 @@ fn unmake_at(paths: &[String], number: usize) -> Option<Action<'_>>
 // What removes an old text or an emptied directory.
 fn clean_at(leftovers: &[Leftover], number: usize) -> Option<Action<'_>>
     ensures listed { option_map action_of result ≡ slice_get (map cleans leftovers.now) number }
+    ensures spelled { option_map path_texts result ≡ slice_get (map leftover_texts leftovers.now) number }
+    ensures kind { IfSome result (λ action. IsOfStage Cleaning number action) }
     ensures fits { IfSome result (λ action. number + 1 < 2 ^ 64) }
 {
     if number >= leftovers.len() {
@@ -152,7 +169,9 @@ fn clean_at(leftovers: &[Leftover], number: usize) -> Option<Action<'_>>
 
 // What removes what is left over.
 fn clean_action(leftover: &Leftover) -> Action<'_>
-    ensures { action_of result ≡ cleans leftover.now }
+    ensures does { action_of result ≡ cleans leftover.now }
+    ensures spelled { path_texts result ≡ leftover_texts leftover.now }
+    ensures kind { (number : ℕ) → IsOfStage Cleaning number result }
 {
     match leftover {
         Leftover::Text(text) => Action::RemoveText(text),
@@ -163,6 +182,8 @@ fn clean_action(leftover: &Leftover) -> Action<'_>
 // What removes a new text.
 fn erase_at(texts: &[TextFile], number: usize) -> Option<Action<'_>>
     ensures listed { option_map action_of result ≡ slice_get (map removes texts.now) number }
+    ensures spelled { option_map path_texts result ≡ slice_get (map file_texts texts.now) number }
+    ensures kind { IfSome result (λ action. IsOfStage Erasing number action) }
     ensures fits { IfSome result (λ action. number + 1 < 2 ^ 64) }
 {
     if number >= texts.len() {
@@ -174,6 +195,8 @@ fn erase_at(texts: &[TextFile], number: usize) -> Option<Action<'_>>
 // What removes a new text that may be written in part.
 fn part_at(texts: &[TextFile], number: usize) -> Option<Action<'_>>
     ensures listed { option_map action_of result ≡ slice_get (map removes_part texts.now) number }
+    ensures spelled { option_map path_texts result ≡ slice_get (map file_texts texts.now) number }
+    ensures kind { IfSome result (λ action. IsOfStage Writing number action) }
     ensures fits { IfSome result (λ action. number + 1 < 2 ^ 64) }
 {
     if number >= texts.len() {

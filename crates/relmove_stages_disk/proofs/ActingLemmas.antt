@@ -3,7 +3,7 @@ use Rattle.std.proofs.Common.{◌≡◌, inl, inr, ℕ, List, Some, None, IsSome
 use Rattle.std.specs.declared.alloc.AllocError.{AllocError}
 use Rattle.std.specs.declared.alloc.Global.{Global}
 use Rattle.relmove_journal.specs.declared.text_digest.TextDigest.{TextDigest}
-use Rattle.relmove_stages.specs.StageActions.{Clears, Does, IsPart, IsText, Makes, Removes, RemovesPart, StageAction, Takes}
+use Rattle.relmove_stages.specs.StageActions.{Clears, Does, HasPart, HasText, IsPart, IsText, Makes, Removes, RemovesPart, StageAction, Takes}
 use Rattle.relmove_stages_disk.proofs.LookingLemmas.{takes-none}
 use Rattle.relmove_stages_disk.proofs.NodesLemmas.{with_node-none}
 use Rattle.relmove_stages_disk.specs.Acting.{Answers, IsGivenMemory}
@@ -41,14 +41,17 @@ at_paths from from_2 to to_2 tree result same same_2 answers =
     subst (λ text. Answers (Takes (names_of text) (names_of to_2)) tree result) same
     (subst (λ text. Answers (Takes (names_of from) (names_of text)) tree result) same_2 answers)
 
-pub rename-gone : (old : Tree) (from to : Place) → old from ≡ None → Does (Takes from to) old old
-rename-gone old from to none = record {
+pub rename-gone : (old : Tree) (from to : Place) → old from ≡ None → IsSome (old to) → Does (Takes from to) old old
+rename-gone old from to none some = record {
+  can = inr (none, some);
   acts = λ ready. absurd (some_none (old from) ready.there none);
   stays = λ done. refl;
 }
 
-pub rename-done : (old : Tree) (from to : Place) → IsSome (old from) → Does (Takes from to) old (after_rename (from, to) old)
-rename-done old from to some = record {
+pub rename-done : (old : Tree) (from to : Place) → IsSome (old from) → CanTake old to → ¬ IsUnder to from
+    → Does (Takes from to) old (after_rename (from, to) old)
+rename-done old from to some takes apart = record {
+  can = inl (record { there = some; takes = takes; apart = apart });
   acts = λ ready. refl;
   stays = λ done. absurd (some_none (old from) some done.0);
 }
@@ -68,13 +71,14 @@ rename-no_room old from to some not = (λ ready. not ready.takes, λ done. some_
 
 pub make-there : (old : Tree) (place : Place) → old place ≡ Some Directory → Does (Makes place) old old
 make-there old place is = record {
+  can = inr is;
   acts = λ ready. absurd (some_none (old place) (directory-some old place is) (takes-none old place ready));
   stays = λ done. refl;
 }
 
-pub make-done : (old : Tree) (place : Place) → (old place ≡ Some Directory → ⊥)
+pub make-done : (old : Tree) (place : Place) → (old place ≡ Some Directory → ⊥) → CanTake old place
     → Does (Makes place) old (with_node place (Some Directory) old)
-make-done old place not = record { acts = λ ready. refl; stays = λ done. absurd (not done) }
+make-done old place not takes = record { can = inl takes; acts = λ ready. refl; stays = λ done. absurd (not done) }
 
 pub make-no_room : (old : Tree) (place : Place) → (old place ≡ Some Directory → ⊥) → ¬ CanTake old place
     → Answers (Makes place) old (Err Refused)
@@ -83,20 +87,22 @@ make-no_room old place not no_room = (no_room, not)
 -- ---- a directory removed
 
 pub clear-below : (old : Tree) (place : Place) → HasBelow old place → Does (Clears place) old old
-clear-below old place below = record { acts = λ ready. inr (below, refl); stays = λ done. refl }
+clear-below old place below = record { can = inr (inr below); acts = λ ready. inr (below, refl); stays = λ done. refl }
 
 pub clear-gone : (old : Tree) (place : Place) → old place ≡ None → Does (Clears place) old old
 clear-gone old place none = record {
+  can = inr (inl none);
   acts = λ ready. absurd (some_none (old place) (directory-some old place ready) none);
   stays = λ done. refl;
 }
 
-pub clear-done : (old : Tree) (place : Place) → ¬ HasBelow old place → IsSome (old place)
+pub clear-done : (old : Tree) (place : Place) → ¬ HasBelow old place → old place ≡ Some Directory
     → Does (Clears place) old (with_node place None old)
-clear-done old place not some = record {
+clear-done old place not is = record {
+  can = inl is;
   acts = λ ready. inl (not, refl);
   stays = λ done. elim done [
-    | inl none ↦ absurd (some_none (old place) some none)
+    | inl none ↦ absurd (some_none (old place) (directory-some old place is) none)
     | inr below ↦ absurd (not below)
   ];
 }
@@ -115,13 +121,15 @@ clear-other old place not some other = (
 
 pub remove-gone : (old : Tree) (place : Place) (digest : TextDigest) → old place ≡ None → Does (Removes place digest) old old
 remove-gone old place digest none = record {
+  can = inr none;
   acts = λ (bytes, is, text). absurd (some_none (old place) (some_is (Some (File bytes)) (old place) (sym is) refl) none);
   stays = λ done. refl;
 }
 
-pub remove-done : (old : Tree) (place : Place) (digest : TextDigest) → IsSome (old place)
+pub remove-done : (old : Tree) (place : Place) (digest : TextDigest) → IsSome (old place) → HasText place digest old
     → Does (Removes place digest) old (with_node place None old)
-remove-done old place digest some = record {
+remove-done old place digest some is = record {
+  can = inl is;
   acts = λ ready. refl;
   stays = λ done. absurd (some_none (old place) some done);
 }
@@ -134,11 +142,16 @@ remove-other old place digest some other = (λ (bytes, is, text). other bytes is
 -- ---- a text removed that may be a part
 
 pub part-gone : (old : Tree) (place : Place) (digest : TextDigest) → old place ≡ None → Does (RemovesPart place digest) old old
-part-gone old place digest none = record { acts = λ ready. sym (with_node-none place old none); stays = λ done. refl }
+part-gone old place digest none = record {
+  can = inr none;
+  acts = λ ready. sym (with_node-none place old none);
+  stays = λ done. refl;
+}
 
-pub part-done : (old : Tree) (place : Place) (digest : TextDigest) → IsSome (old place)
+pub part-done : (old : Tree) (place : Place) (digest : TextDigest) → IsSome (old place) → HasPart place digest old
     → Does (RemovesPart place digest) old (with_node place None old)
-part-done old place digest some = record {
+part-done old place digest some is = record {
+  can = inl (inr is);
   acts = λ ready. refl;
   stays = λ done. absurd (some_none (old place) some done);
 }

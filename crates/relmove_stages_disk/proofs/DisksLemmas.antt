@@ -15,12 +15,13 @@ use Rattle.relmove_stages.specs.Runs.{CanWrite}
 use Rattle.relmove_stages.specs.StageActions.{Does, IsDone, IsPart, IsReady, IsText, MayDo, MayWrite, StageAction, place_of}
 use Rattle.relmove_stages.specs.States.{Disk, IsOneCall, Leaves}
 use Rattle.relmove_stages_disk.specs.Acting.{HasActed, HasWritten}
-use Rattle.relmove_stages_disk.specs.Disks.{GoesOn, Had, WritesOn, bytes_of, count_up, HadSince, disk_of, faults_after, only_now, state_of}
+use Rattle.relmove_stages_disk.specs.Disks.{GoesOn, Had, WritesOn, bytes_of, count_up, HadSince, disk_of, faults_after, none_after, only_now, state_of}
+use Rattle.relmove_stages_disk.specs.Journals.{said}
 use Rattle.relmove_stages_disk.specs.declared.disk.MemoryDisk.{MemoryDisk}
 use Rattle.relmove_stages_disk.specs.declared.fault.Fault.{Fault}
 use Rattle.relmove_stages_disk.specs.declared.fault.Fault.TheVariants.{Failed, OutOfMemory, Refused}
 use Rattle.relmove_stages_disk.specs.declared.moment.Moment.{Moment}
-use Rattle.relmove_trees.specs.FileTrees.{File, Tree, with_node}
+use Rattle.relmove_trees.specs.FileTrees.{CanTake, File, Tree, with_node}
 use Rattle.relmove_trees.specs.TreeActions.{Acts, Write}
 
 none_had : (k : ℕ) (disk : Disk) → Had (drop k []) disk → ⊥
@@ -116,7 +117,7 @@ one_call old new goes durable no_less = record {
 -- a write leaves what might have been left before, or P holds of it
 pub write_call : (P : Disk → Type 0) (text : TextFile) (old new : MemoryDisk)
     → WritesOn text old.now old.past.items new.now new.past.items → new.durable ≡ old.durable → old.faults ≤ new.faults
-    → P (disk_of old.now) → ((mid : Moment) → mid.journal ≡ old.now.journal
+    → P (disk_of old.now) → ((mid : Moment) → said mid.journal ≡ said old.now.journal
     → MayWrite (place_of text.path) text.digest (disk_of old.now).tree (disk_of mid).tree → P (disk_of mid))
     → P (disk_of new.now) → Leaves P (state_of old) (state_of new)
 write_call P text old new (mid, between, goes, goes_2, same, may) durable no_less at_old at_mid at_new = record {
@@ -187,17 +188,17 @@ no_less (Err Failed) old new same counted = count_up-no_less old new counted
 no_less (Err OutOfMemory) old new same counted = count_up-no_less old new counted
 no_less (Err Refused) old new same counted = omega (arith, counted)
 
--- a result that isn't a refusal
-pub not_refused : {T : Type 0} (outcome : Result T Fault) → IfErr outcome (λ fault. fault ≡ Refused → ⊥)
-    → outcome ≡ Err Refused → ⊥
-not_refused (Ok done) not is = cc
-not_refused (Err fault) not is = let same : fault ≡ Refused = cc is in not same
-
 -- a refusal that comes only where P doesn't hold
 pub refused_if : {T : Type 0} (P : Type 0) (outcome : Result T Fault) → IfErr outcome (λ fault. fault ≡ Refused → ¬ P)
     → outcome ≡ Err Refused → P → ⊥
 refused_if P (Ok done) not is = absurd (cc is)
 refused_if P (Err fault) not is = let same : fault ≡ Refused = cc is in not same
+
+-- a refusal that comes only where P and Q don't both hold
+pub refused_if-both : {T : Type 0} (P Q : Type 0) (outcome : Result T Fault)
+    → IfErr outcome (λ fault. fault ≡ Refused → P → ¬ Q) → outcome ≡ Err Refused → P → Q → ⊥
+refused_if-both P Q (Ok done) not is = absurd (cc is)
+refused_if-both P Q (Err fault) not is = let same : fault ≡ Refused = cc is in not same
 
 pub ok_then : {T : Type 0} (P Q : Type 0) (outcome result : Result T Fault) → result ≡ outcome → OnOk outcome Q
     → OnOk result (P → Q)
@@ -207,6 +208,38 @@ ok_then {T = T} P Q outcome result same holds = subst (λ r. OnOk r (P → Q)) (
     by (Ok done) holds = λ p. holds
     by (Err fault) holds = tt
 
+-- what follows from it holds too
+pub ok_to : {T : Type 0} (P Q R : Type 0) (outcome result : Result T Fault) → result ≡ outcome → (Q → R) → OnOk outcome Q
+    → OnOk result (P → R)
+ok_to {T = T} P Q R outcome result same to holds = ok_then P R outcome result same (by outcome holds)
+  where
+    by : (outcome : Result T Fault) → OnOk outcome Q → OnOk outcome R
+    by (Ok done) holds = to holds
+    by (Err fault) holds = tt
+
+-- a crash leaves what was there before a call, or what is there
+abbrev pub IsLast : MemoryDisk → MemoryDisk → Type 0
+IsLast old new = (disk : Disk) → HadSince new new.durable disk → (disk ≡ disk_of old.now) ⊎ (disk ≡ disk_of new.now)
+
+-- so it is after a call that waited for the disk
+only_last : (old new : MemoryDisk) → GoesOn old.now old.past.items new.now new.past.items
+    → new.durable ≡ length old.past.items → IsLast old new
+only_last old new goes synced disk left =
+    elim (HadSince-goes old new goes (length old.past.items) disk (subst (λ k. HadSince new k disk) synced left)) [
+      | inl (inl was) ↦ inl was
+      | inl (inr had) ↦ absurd (none_after old.past.items disk had)
+      | inr is ↦ is
+    ]
+
+pub ok_synced : {T : Type 0} (P : Type 0) (old new : MemoryDisk) (outcome result : Result T Fault) → result ≡ outcome
+    → GoesOn old.now old.past.items new.now new.past.items → OnOk outcome (new.durable ≡ length old.past.items)
+    → OnOk result (P → IsLast old new)
+ok_synced {T = T} P old new outcome result same goes synced = ok_then P (IsLast old new) outcome result same (by outcome synced)
+  where
+    by : (outcome : Result T Fault) → OnOk outcome (new.durable ≡ length old.past.items) → OnOk outcome (IsLast old new)
+    by (Ok done) synced = only_last old new goes synced
+    by (Err fault) synced = tt
+
 -- a call that fails is counted, unless it was refused
 pub has_cause : {T : Type 0} (P : Type 0) (outcome : Result T Fault) (old new : ℕ)
     → IfErr outcome (λ fault. new ≡ faults_after fault old) → (outcome ≡ Err Refused → P → ⊥)
@@ -214,48 +247,59 @@ pub has_cause : {T : Type 0} (P : Type 0) (outcome : Result T Fault) (old new : 
 has_cause P (Ok done) old new counted not = tt
 has_cause P (Err fault) old new counted not = λ clean can. more_faults fault old new counted clean (λ is. not (ap Err is) can)
 
-pub has_cause-always : {T : Type 0} (outcome : Result T Fault) (old new : ℕ)
-    → IfErr outcome (λ fault. new ≡ faults_after fault old) → (outcome ≡ Err Refused → ⊥)
-    → OnErr outcome (IsTrue (nat_lt new (2 ^ 64 - 1)) → old < new)
-has_cause-always (Ok done) old new counted not = tt
-has_cause-always (Err fault) old new counted not = λ clean. more_faults fault old new counted clean (λ is. not (ap Err is))
-
 -- ---- what an action leaves
 
 may_do : (action : StageAction) (old new : Tree) → Does action old new → MayDo action old new
-may_do action old new does = record { acts = λ ready. inr (does.acts ready); stays = does.stays }
+may_do action old new does = record {
+  only = elim does.can [ inl ready ↦ inr ready | inr done ↦ inl (does.stays done) ];
+  acts = λ ready. inr (does.acts ready);
+  stays = does.stays;
+}
 
 may_stay : (action : StageAction) (old new : Tree) → new ≡ old → MayDo action old new
-may_stay action old new same = record { acts = λ ready. inl same; stays = λ done. same }
+may_stay action old new same = record { only = inl same; acts = λ ready. inl same; stays = λ done. same }
 
-pub HasActed-does : {T : Type 0} (P : Type 0) (action : StageAction) (old new : Tree) (result : Result T Fault)
-    → HasActed action old new result → OnOk result (P → Does action old new)
-HasActed-does P action old new (Ok done) acted = λ holds. acted
-HasActed-does P action old new (Err fault) acted = tt
+pub HasActed-does : {T : Type 0} (P : Type 0) (asked : Bool) (action : StageAction) (old new : Tree) (result : Result T Fault)
+    → HasActed asked action old new result → OnOk result (P → Does action old new)
+HasActed-does P asked action old new (Ok done) acted = λ holds. acted.1
+HasActed-does P asked action old new (Err fault) acted = tt
 
-pub HasActed-may_do : {T : Type 0} (action : StageAction) (old new : Tree) (result : Result T Fault) → HasActed action old new result
-    → MayDo action old new
-HasActed-may_do action old new (Ok done) acted = may_do action old new acted
-HasActed-may_do action old new (Err Failed) acted = acted
-HasActed-may_do action old new (Err OutOfMemory) acted = may_stay action old new acted
-HasActed-may_do action old new (Err Refused) acted = may_stay action old new acted.0
+pub HasActed-asked : {T : Type 0} (P Q : Type 0) (asked : Bool) (action : StageAction) (old new : Tree) (result : Result T Fault)
+    → (IsTrue asked → Q) → HasActed asked action old new result → OnOk result (P → Q)
+HasActed-asked P Q asked action old new (Ok done) to acted = λ holds. to acted.0
+HasActed-asked P Q asked action old new (Err fault) to acted = tt
 
-pub HasActed-refused : {T : Type 0} (action : StageAction) (old new : Tree) (result : Result T Fault) → HasActed action old new result
-    → result ≡ Err Refused → IsReady action old ⊎ IsDone action old → ⊥
-HasActed-refused action old new (Ok done) acted is can = cc
-HasActed-refused action old new (Err Failed) acted is can = cc
-HasActed-refused action old new (Err OutOfMemory) acted is can = cc
-HasActed-refused action old new (Err Refused) acted is can = elim can [
-  | inl ready ↦ acted.1.0 ready
-  | inr done ↦ acted.1.1 done
+pub HasActed-may_do : {T : Type 0} (asked : Bool) (action : StageAction) (old new : Tree) (result : Result T Fault)
+    → HasActed asked action old new result → MayDo action old new
+HasActed-may_do asked action old new (Ok done) acted = may_do action old new acted.1
+HasActed-may_do asked action old new (Err Failed) acted = acted
+HasActed-may_do asked action old new (Err OutOfMemory) acted = may_stay action old new acted
+HasActed-may_do asked action old new (Err Refused) acted = may_stay action old new acted.0
+
+pub HasActed-refused : {T : Type 0} (asked : Bool) (action : StageAction) (old new : Tree) (result : Result T Fault)
+    → HasActed asked action old new result → result ≡ Err Refused → IsTrue asked → IsReady action old ⊎ IsDone action old → ⊥
+HasActed-refused asked action old new (Ok done) acted is known can = cc
+HasActed-refused asked action old new (Err Failed) acted is known can = cc
+HasActed-refused asked action old new (Err OutOfMemory) acted is known can = cc
+HasActed-refused asked action old new (Err Refused) acted is known can = elim can [
+  | inl ready ↦ (acted.1 known).0 ready
+  | inr done ↦ (acted.1 known).1 done
 ]
+
+-- a call that fails is counted, unless it was refused, where two things hold
+pub has_cause-both : {T : Type 0} (P Q : Type 0) (outcome : Result T Fault) (old new : ℕ)
+    → IfErr outcome (λ fault. new ≡ faults_after fault old) → (outcome ≡ Err Refused → P → Q → ⊥)
+    → OnErr outcome (IsTrue (nat_lt new (2 ^ 64 - 1)) → P → Q → old < new)
+has_cause-both P Q (Ok done) old new counted not = tt
+has_cause-both P Q (Err fault) old new counted not =
+    λ clean one two. more_faults fault old new counted clean (λ is. not (ap Err is) one two)
 
 -- ---- what a write leaves
 
 pub HasWritten-written : {T : Type 0} (P : Type 0) (texts : List (List ℕ)) (number : ℕ) (text : TextFile) (old new : Tree)
     (result : Result T Fault) → HasWritten texts number text old new result
     → OnOk result (P → (bytes : List ℕ) → slice_get texts number ≡ Some bytes → Acts (Write (place_of text.path) bytes) old new)
-HasWritten-written P texts number text old new (Ok done) (bytes, at, is, acts) =
+HasWritten-written P texts number text old new (Ok done) (takes, bytes, at, is, acts) =
     λ holds other at_2.
     let same : bytes ≡ other = cc (sym at ∙ at_2) in
     subst (λ b. Acts (Write (place_of text.path) b) old new) same acts
@@ -263,10 +307,15 @@ HasWritten-written P texts number text old new (Err fault) written = tt
 
 pub HasWritten-may : {T : Type 0} (texts : List (List ℕ)) (number : ℕ) (text : TextFile) (old new : Tree) (result : Result T Fault)
     → HasWritten texts number text old new result → MayWrite (place_of text.path) text.digest old new
-HasWritten-may texts number text old new (Ok done) (bytes, at, is, acts) = inr (bytes, inr is, acts)
+HasWritten-may texts number text old new (Ok done) (takes, bytes, at, is, acts) = inr (takes, bytes, inr is, acts)
 HasWritten-may texts number text old new (Err Failed) written = written
 HasWritten-may texts number text old new (Err OutOfMemory) written = written
 HasWritten-may texts number text old new (Err Refused) written = inl written.0
+
+pub HasWritten-can : {T : Type 0} (P : Type 0) (texts : List (List ℕ)) (number : ℕ) (text : TextFile) (old new : Tree)
+    (result : Result T Fault) → HasWritten texts number text old new result → OnOk result (P → CanWrite texts number text old)
+HasWritten-can P texts number text old new (Ok done) (takes, bytes, at, is, acts) = λ holds. (takes, bytes, at, is)
+HasWritten-can P texts number text old new (Err fault) written = tt
 
 pub HasWritten-refused : {T : Type 0} (texts : List (List ℕ)) (number : ℕ) (text : TextFile) (old new : Tree) (result : Result T Fault)
     → HasWritten texts number text old new result → result ≡ Err Refused → CanWrite texts number text old → ⊥
@@ -283,10 +332,11 @@ part_of digest bytes k is = elim (cases_lt k (length bytes)) [
 ]
 
 -- what comes first when a text is written
-pub write_first : (text : TextFile) (bytes : List ℕ) (k : ℕ) (now mid : Moment) → IsText text.digest bytes
+pub write_first : (text : TextFile) (bytes : List ℕ) (k : ℕ) (now mid : Moment)
+    → CanTake (disk_of now).tree (place_of text.path) → IsText text.digest bytes
     → (disk_of mid).tree ≡ with_node (place_of text.path) (Some (File (take k bytes))) (disk_of now).tree
     → MayWrite (place_of text.path) text.digest (disk_of now).tree (disk_of mid).tree
-write_first text bytes k now mid is acts = inr (take k bytes, part_of text.digest bytes k is, acts)
+write_first text bytes k now mid takes is acts = inr (takes, take k bytes, part_of text.digest bytes k is, acts)
 
 -- a write that changed nothing, and one that wrote a part first
 pub writes-none : (text : TextFile) (now next : Moment) (past past_next : List Moment) → next ≡ now → past_next ≡ past
@@ -295,11 +345,11 @@ writes-none text now next past past_next same same_2 =
     (now, past, inl (refl, refl), inl (same, same_2), refl, inl refl)
 
 pub writes-on : (text : TextFile) (bytes : List ℕ) (k : ℕ) (now mid next : Moment) (past between past_next : List Moment)
-    → IsText text.digest bytes → mid.journal ≡ now.journal
+    → CanTake (disk_of now).tree (place_of text.path) → IsText text.digest bytes → said mid.journal ≡ said now.journal
     → (disk_of mid).tree ≡ with_node (place_of text.path) (Some (File (take k bytes))) (disk_of now).tree
     → between ≡ past ++ now ∷ [] → GoesOn mid between next past_next → WritesOn text now past next past_next
-writes-on text bytes k now mid next past between past_next is journal acts same goes =
-    (mid, between, inr same, goes, journal, write_first text bytes k now mid is acts)
+writes-on text bytes k now mid next past between past_next takes is journal acts same goes =
+    (mid, between, inr same, goes, journal, write_first text bytes k now mid takes is acts)
 
 -- ---- texts that can't be written
 
@@ -326,10 +376,10 @@ other_text texts number bytes text tree at not (takes, other, at_2, is) =
 
 -- what a write returned
 pub has_written : {T : Type 0} (texts : List (List ℕ)) (number : ℕ) (text : TextFile) (bytes : List ℕ) (old new : Tree)
-    (result : Result T Fault) → slice_get texts number ≡ Some bytes → IsText text.digest bytes
+    (result : Result T Fault) → CanTake old (place_of text.path) → slice_get texts number ≡ Some bytes → IsText text.digest bytes
     → OnOk result (Acts (Write (place_of text.path) bytes) old new) → MayWrite (place_of text.path) text.digest old new
     → IfErr result (λ fault. fault ≡ Refused → ⊥) → HasWritten texts number text old new result
-has_written texts number text bytes old new (Ok done) at is acts may not = (bytes, at, is, acts)
-has_written texts number text bytes old new (Err Failed) at is acts may not = may
-has_written texts number text bytes old new (Err OutOfMemory) at is acts may not = may
-has_written texts number text bytes old new (Err Refused) at is acts may not = absurd (not refl)
+has_written texts number text bytes old new (Ok done) takes at is acts may not = (takes, bytes, at, is, acts)
+has_written texts number text bytes old new (Err Failed) takes at is acts may not = may
+has_written texts number text bytes old new (Err OutOfMemory) takes at is acts may not = may
+has_written texts number text bytes old new (Err Refused) takes at is acts may not = absurd (not refl)

@@ -4,3 +4,5 @@ mod EntriesLemmas
 mod LookingLemmas
 mod ActingLemmas
 mod DisksLemmas
+pub mod TextsLemmas
+mod StagesLemmas

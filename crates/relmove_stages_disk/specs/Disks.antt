@@ -6,6 +6,7 @@ use Rattle.relmove_journal.specs.declared.work.TextFile.{TextFile}
 use Rattle.relmove_stages.specs.StageActions.{MayWrite, place_of}
 use Rattle.relmove_stages.specs.States.{Disk, State}
 use Rattle.relmove_stages_disk.specs.Entries.{entries_tree}
+use Rattle.relmove_stages_disk.specs.Journals.{said}
 use Rattle.relmove_stages_disk.specs.declared.disk.MemoryDisk.{MemoryDisk}
 use Rattle.relmove_stages_disk.specs.declared.fault.Fault.{Fault}
 use Rattle.relmove_stages_disk.specs.declared.fault.Fault.TheVariants.{Failed, OutOfMemory, Refused}
@@ -13,7 +14,7 @@ use Rattle.relmove_stages_disk.specs.declared.moment.Moment.{Moment}
 
 -- the journal and the tree at a moment
 abbrev pub disk_of : Moment → Disk
-disk_of moment = record { journal = moment.journal; tree = entries_tree moment.entries.items }
+disk_of moment = record { journal = said moment.journal; tree = entries_tree moment.entries.items }
 
 -- one of the moments had this
 abbrev pub Had : List Moment → Disk → Type 0
@@ -33,6 +34,8 @@ state_of memory = record {
   moment = length memory.past.items;
   left_since = HadSince memory;
   faults = memory.faults;
+  prepared = said memory.prepared;
+  completed = said memory.completed;
   is_clean = nat_lt memory.faults (2 ^ 64 - 1);
 }
 
@@ -53,7 +56,7 @@ GoesOn now past next past_next = ((next ≡ now) × (past_next ≡ past)) ⊎ (p
 -- nothing changed, or a part of the text came first, or the whole of it came after the part
 abbrev pub WritesOn : TextFile → Moment → List Moment → Moment → List Moment → Type 0
 WritesOn text now past next past_next = (mid : Moment) × (between : List Moment) × GoesOn now past mid between
-    × GoesOn mid between next past_next × (mid.journal ≡ now.journal)
+    × GoesOn mid between next past_next × (said mid.journal ≡ said now.journal)
     × MayWrite (place_of text.path) text.digest (disk_of now).tree (disk_of mid).tree
 
 -- the bytes of texts
@@ -64,7 +67,7 @@ bytes_of texts = map (λ text. text.items) texts
 abbrev pub texts_of : MemoryDisk → List (List ℕ)
 texts_of memory = bytes_of memory.texts.items
 
-none_after : (moments : List Moment) (disk : Disk) → Had (drop (length moments) moments) disk → ⊥
+pub none_after : (moments : List Moment) (disk : Disk) → Had (drop (length moments) moments) disk → ⊥
 none_after [] disk had = had
 none_after (moment ∷ moments) disk had = none_after moments disk had
 

@@ -1,3 +1,5 @@
 pub mod Entries
 pub mod Acting
+pub mod Journals
 pub mod Disks
+pub mod Texts

@@ -1,11 +1,16 @@
 //! A disk in memory.
-ghost use Rattle.std.specs.Prelude.{◌≡◌, ◌≢◌, ◌++◌, ◌∷◌, ◌⊎◌, [], IfErr, IsTrue, None, OnOk, Some, false, length};
-ghost use Rattle.relmove_trees.specs.FileTrees.{names_of};
+ghost use Rattle.std.specs.Prelude.{◌≡◌, ◌≢◌, ◌++◌, option_map, ◌∷◌, ◌⊎◌, ◌↔◌, [], IfErr, IsTrue, None, OnOk, Some, false, length};
+ghost use Rattle.relmove_trees.specs.FileTrees.{CanTake, names_of};
 ghost use Rattle.relmove_trees.specs.TreeActions.{Acts, Write};
 ghost use Rattle.relmove_journal.specs.declared.work.Stage.TheVariants.{Writing};
+ghost use Rattle.relmove_stages.specs.Runs.{CanBegin, CanEnd};
+ghost use Rattle.relmove_stages.specs.Stages.{ComesTo};
+ghost use Rattle.relmove_stages.specs.States as states;
+ghost use Rattle.relmove_stages.specs.States.{Disk, journal_of};
 ghost use Rattle.relmove_stages.specs.StageActions.{IsText, MayWrite, action_of, place_of};
 ghost use Rattle.relmove_stages_disk.specs.Acting.{HasActed, HasWritten};
 ghost use Rattle.relmove_stages_disk.specs.Entries.{entries_tree, node_at};
+ghost use Rattle.relmove_stages_disk.specs.Journals.{said};
 ghost use Rattle.relmove_stages_disk.specs.Disks.{GoesOn, WritesOn, bytes_of, count_up, counts_now, disk_of, faults_after, leaves_now, only_now, state_of, texts_of};
 ghost use Rattle.relmove_stages_disk.specs.declared.fault.Fault.TheVariants.{Failed, Refused};
 
@@ -13,14 +18,15 @@ use crate::actions::entries_after;
 use crate::entries::{can_take, copies_of, find_node, with_file};
 use crate::entry::{Entry, Node, is_text};
 use crate::fault::{Failing, Failure, Fault};
-use crate::moment::Moment;
+use crate::moment::{Journal, Moment, copy_journal, says};
+use crate::texts::{can_begin, can_end};
 use relative_path::RelativePath;
 use relmove_journal::{Stage, TextFile, Work};
-use relmove_stages::{Action, Executor, Initiator};
+use relmove_stages::{Action, Executor, Initiator, next_stage};
 use std::alloc::Global;
 use std::mem;
 
-/// A disk in memory, with the tree of a run and the stage that its journal says. It keeps what it had at each moment. What an
+/// A disk in memory, with the tree of a run and its journal. It keeps what it had at each moment. What an
 /// action did isn't safe at once: a loss of power leaves what the disk had at some moment since a call of `enter` or `end` began.
 #[derive(Drop)]
 pub struct MemoryDisk {
@@ -35,13 +41,21 @@ pub struct MemoryDisk {
     texts: Vec<Vec<u8>>,
     // How many calls have failed.
     faults: u64,
+    // The work and the stage for which it was last asked whether the stage can begin, if it can.
+    prepared: Option<Journal>,
+    // The work and the stage for which it was asked since the last action whether the stage can end, if it can.
+    completed: Option<Journal>,
 }
 
 impl MemoryDisk {
-    /// A disk with these entries and this stage. No call fails but for want of memory. Allocates nothing.
-    pub fn new(alloc: Global, entries: Vec<Entry>, journal: Option<Stage>) -> MemoryDisk
-        // the disk has the tree of the entries, and this stage
-        ensures disk { (state_of result).disk ≡ record { journal = journal; tree = entries_tree entries.items } }
+    /// A disk with these entries and this journal. No call fails but for want of memory. Allocates nothing.
+    pub fn new(alloc: Global, entries: Vec<Entry>, journal: Option<Journal>) -> MemoryDisk
+        // the disk has the tree of the entries, and this journal
+        ensures disk { (state_of result).disk ≡ record { journal = said journal; tree = entries_tree entries.items } }
+        // it is clean
+        ensures clean { IsTrue (state_of result).is_clean }
+        // a crash leaves nothing else
+        ensures crash { (c : Disk) → (state_of result).may_leave c → c ≡ (state_of result).disk }
     {
         MemoryDisk {
             alloc,
@@ -51,6 +65,8 @@ impl MemoryDisk {
             failure: None,
             texts: Vec::new(alloc),
             faults: 0,
+            prepared: None,
+            completed: None,
         }
     }
 
@@ -58,6 +74,10 @@ impl MemoryDisk {
     pub fn fail(&mut self, failure: Option<Failure>)
         // the disk stays
         ensures same { (state_of self.new).disk ≡ (state_of self.old).disk }
+        // it stays clean
+        ensures clean { (state_of self.new).is_clean ≡ (state_of self.old).is_clean }
+        // a crash leaves what it might have left before
+        ensures crash { (c : Disk) → (state_of self.new).may_leave c → (state_of self.old).may_leave c }
     {
         self.failure = failure;
     }
@@ -66,6 +86,10 @@ impl MemoryDisk {
     pub fn set_texts(&mut self, texts: Vec<Vec<u8>>)
         // the disk stays
         ensures same { (state_of self.new).disk ≡ (state_of self.old).disk }
+        // it stays clean
+        ensures clean { (state_of self.new).is_clean ≡ (state_of self.old).is_clean }
+        // a crash leaves what it might have left before
+        ensures crash { (c : Disk) → (state_of self.new).may_leave c → (state_of self.old).may_leave c }
         // it writes these texts
         ensures texts { texts_of self.new ≡ bytes_of texts.items }
     {
@@ -99,9 +123,12 @@ impl MemoryDisk {
     /// The stage that the journal says.
     pub fn journal(&self) -> Option<Stage>
         // the stage that the journal says
-        ensures journal { result ≡ (state_of self.entry.now).disk.journal }
+        ensures journal { result ≡ option_map (λ journal. journal.stage) (state_of self.entry.now).disk.journal }
     {
-        self.now.journal
+        match &self.now.journal {
+            Some(journal) => Some(journal.stage),
+            None => None,
+        }
     }
 }
 
@@ -151,26 +178,77 @@ fn put(now: &mut Moment, past: &mut Vec<Moment>, next: Moment) -> bool
     }
 }
 
-// Does an action.
+// Returns whether a run at the first stage comes to another one: it is the same, or a later one on the same way.
+fn comes_to(first: Stage, stage: Stage) -> bool
+    ensures { IsTrue result ↔ ComesTo first stage }
+{
+    let mut at = first;
+    while at != stage {
+        let Some(next) = next_stage(at) else {
+            return false;
+        };
+        at = next;
+    }
+    true
+}
+
+// Returns whether it is known that the journal's stage can end, if there is a journal.
+fn is_end_known(completed: &Option<Journal>, journal: &Option<Journal>) -> bool
+    ensures { IsTrue result ↔ ((there : states.Journal) → said journal.now ≡ Some there → said completed.now ≡ Some there) }
+{
+    match journal {
+        Some(journal) => says(completed, journal),
+        None => true,
+    }
+}
+
+// Returns whether it is known that the journal's stage can end, if it comes to this one.
+fn can_come_to(completed: &Option<Journal>, journal: &Option<Journal>, next: Stage) -> bool
+    ensures { IsTrue result ↔ ((there : states.Journal) → said journal.now ≡ Some there → ComesTo there.stage next
+        → said completed.now ≡ Some there) }
+{
+    match journal {
+        Some(journal) => !comes_to(journal.stage, next) || says(completed, journal),
+        None => true,
+    }
+}
+
+// Returns whether the journal's stage was asked for.
+fn is_asked(prepared: &Option<Journal>, journal: &Option<Journal>) -> bool
+    ensures { IsTrue result ↔ (said prepared.now ≡ said journal.now) }
+{
+    match journal {
+        Some(journal) => says(prepared, journal),
+        None => prepared.is_none(),
+    }
+}
+
+// Does an action, if the journal's stage was asked for.
 fn try_act(
     alloc: Global,
     now: &mut Moment,
     past: &mut Vec<Moment>,
+    asked: bool,
     action: Action<'_>,
     failing: Option<Failing>,
 ) -> Result<(), Fault>
-    ensures acted { HasActed (action_of action.entry) (disk_of now.old).tree (disk_of now.new).tree result }
-    ensures journal { now.new.journal ≡ now.old.journal }
+    ensures acted { HasActed asked (action_of action.entry) (disk_of now.old).tree (disk_of now.new).tree result }
+    ensures journal { said now.new.journal ≡ said now.old.journal }
     ensures moments { GoesOn now.old past.old.items now.new past.new.items }
 {
     if fails_before(failing) {
         return Err(Fault::Failed);
     }
+    if !asked {
+        return Err(Fault::Refused);
+    }
     let entries = match entries_after(alloc, &now.entries, action) {
         Ok(entries) => entries,
         Err(fault) => return Err(fault),
     };
-    let journal = now.journal;
+    let Ok(journal) = copy_journal(alloc, &now.journal) else {
+        return Err(Fault::OutOfMemory);
+    };
     if !put(now, past, Moment { entries, journal }) {
         return Err(Fault::OutOfMemory);
     }
@@ -188,7 +266,7 @@ fn try_write(
     failing: Option<Failing>,
 ) -> Result<(), Fault>
     ensures written { HasWritten (bytes_of texts.now) number text.now (disk_of now.old).tree (disk_of now.new).tree result }
-    ensures journal { now.new.journal ≡ now.old.journal }
+    ensures journal { said now.new.journal ≡ said now.old.journal }
     ensures moments { WritesOn text.now now.old past.old.items now.new past.new.items }
 {
     if fails_before(failing) {
@@ -217,9 +295,10 @@ fn write_bytes(
     failing: Option<Failing>,
 ) -> Result<(), Fault>
     requires whole { IsText text.now.digest bytes.now }
+    requires takes { CanTake (disk_of now.old).tree (place_of text.now.path) }
     ensures written { OnOk result (Acts (Write (place_of text.now.path) bytes.now) (disk_of now.old).tree (disk_of now.new).tree) }
     ensures outcome { MayWrite (place_of text.now.path) text.now.digest (disk_of now.old).tree (disk_of now.new).tree }
-    ensures journal { now.new.journal ≡ now.old.journal }
+    ensures journal { said now.new.journal ≡ said now.old.journal }
     ensures moments { WritesOn text.now now.old past.old.items now.new past.new.items }
     ensures not_refused { IfErr result (λ fault. fault ≡ Refused → ⊥) }
 {
@@ -230,7 +309,12 @@ fn write_bytes(
     let Ok(whole) = with_file(alloc, &now.entries, path, bytes) else {
         return Err(Fault::OutOfMemory);
     };
-    let journal = now.journal;
+    let Ok(journal) = copy_journal(alloc, &now.journal) else {
+        return Err(Fault::OutOfMemory);
+    };
+    let Ok(same_journal) = copy_journal(alloc, &now.journal) else {
+        return Err(Fault::OutOfMemory);
+    };
     if !put(
         now,
         past,
@@ -249,7 +333,7 @@ fn write_bytes(
         past,
         Moment {
             entries: whole,
-            journal,
+            journal: same_journal,
         },
     ) {
         return Err(Fault::OutOfMemory);
@@ -277,24 +361,30 @@ fn fails_after(failing: Option<Failing>) -> Result<(), Fault>
     Ok(())
 }
 
-// Puts another stage into the journal, or takes it away, after all that was done is safe.
+// Puts another journal in the place of the one before, or takes it away, after all that was done is safe, if that is allowed.
 fn try_put_journal(
     alloc: Global,
     now: &mut Moment,
     past: &mut Vec<Moment>,
     durable: &mut usize,
-    journal: Option<Stage>,
+    journal: Option<Journal>,
+    allowed: bool,
     failing: Option<Failing>,
 ) -> Result<(), Fault>
     ensures put { OnOk result (now.new.journal ≡ journal) }
+    ensures allowed { OnOk result (IsTrue allowed) }
     ensures outcome { (now.new.journal ≡ now.old.journal) ⊎ (now.new.journal ≡ journal) }
     ensures tree { (disk_of now.new).tree ≡ (disk_of now.old).tree }
     ensures moments { GoesOn now.old past.old.items now.new past.new.items }
     ensures durable { (durable.new ≡ durable.old) ⊎ (durable.new ≡ length past.old.items) }
-    ensures not_refused { IfErr result (λ fault. fault ≡ Refused → ⊥) }
+    ensures synced { OnOk result (durable.new ≡ length past.old.items) }
+    ensures refused { IfErr result (λ fault. fault ≡ Refused → ¬ IsTrue allowed) }
 {
     if fails_before(failing) {
         return Err(Fault::Failed);
+    }
+    if !allowed {
+        return Err(Fault::Refused);
     }
     let Ok(entries) = copies_of(alloc, &now.entries) else {
         return Err(Fault::OutOfMemory);
@@ -306,34 +396,128 @@ fn try_put_journal(
     fails_after(failing)
 }
 
-// Puts the first journal, if none is there.
+// Puts the journal of a stage in the place of the one before, if that is allowed.
+fn try_enter(
+    alloc: Global,
+    now: &mut Moment,
+    past: &mut Vec<Moment>,
+    durable: &mut usize,
+    work: &Work,
+    stage: Stage,
+    allowed: bool,
+    failing: Option<Failing>,
+) -> Result<(), Fault>
+    ensures put { OnOk result (said now.new.journal ≡ Some (journal_of work.now stage)) }
+    ensures allowed { OnOk result (IsTrue allowed) }
+    ensures outcome { (said now.new.journal ≡ said now.old.journal) ⊎ (said now.new.journal ≡ Some (journal_of work.now stage)) }
+    ensures tree { (disk_of now.new).tree ≡ (disk_of now.old).tree }
+    ensures moments { GoesOn now.old past.old.items now.new past.new.items }
+    ensures durable { (durable.new ≡ durable.old) ⊎ (durable.new ≡ length past.old.items) }
+    ensures synced { OnOk result (durable.new ≡ length past.old.items) }
+    ensures refused { IfErr result (λ fault. fault ≡ Refused → ¬ IsTrue allowed) }
+{
+    let Ok(journal) = Journal::of(alloc, work, stage) else {
+        return Err(Fault::OutOfMemory);
+    };
+    try_put_journal(alloc, now, past, durable, Some(journal), allowed, failing)
+}
+
+// Puts the first journal, if none is there, and notes that its stage can end: nothing is written yet.
 fn try_begin(
     alloc: Global,
     now: &mut Moment,
     past: &mut Vec<Moment>,
     durable: &mut usize,
+    completed: &mut Option<Journal>,
+    work: &Work,
     failing: Option<Failing>,
 ) -> Result<(), Fault>
-    ensures put { OnOk result (now.new.journal ≡ Some Writing) }
-    ensures outcome { (now.new.journal ≡ now.old.journal) ⊎ (now.new.journal ≡ Some Writing) }
+    ensures put { OnOk result (said now.new.journal ≡ Some (journal_of work.now Writing)) }
+    ensures outcome { (said now.new.journal ≡ said now.old.journal)
+        ⊎ ((said now.old.journal ≡ None) × (said now.new.journal ≡ Some (journal_of work.now Writing))) }
+    ensures free { OnOk result (said now.old.journal ≡ None) }
+    ensures known { said now.old.journal ≡ None → (there : states.Journal) → said now.new.journal ≡ Some there
+        → said completed.new ≡ Some there }
     ensures tree { (disk_of now.new).tree ≡ (disk_of now.old).tree }
     ensures moments { GoesOn now.old past.old.items now.new past.new.items }
     ensures durable { (durable.new ≡ durable.old) ⊎ (durable.new ≡ length past.old.items) }
-    ensures refused { IfErr result (λ fault. fault ≡ Refused → now.old.journal ≢ None) }
+    ensures synced { OnOk result (durable.new ≡ length past.old.items) }
+    ensures refused { IfErr result (λ fault. fault ≡ Refused → said now.old.journal ≢ None) }
 {
     if now.journal.is_some() {
         return Err(Fault::Refused);
     }
-    try_put_journal(alloc, now, past, durable, Some(Stage::Writing), failing)
+    let Ok(journal) = Journal::of(alloc, work, Stage::Writing) else {
+        return Err(Fault::OutOfMemory);
+    };
+    *completed = Some(journal);
+    try_enter(
+        alloc,
+        now,
+        past,
+        durable,
+        work,
+        Stage::Writing,
+        true,
+        failing,
+    )
 }
 
-// Fails if the call is to fail. It changes nothing.
-fn try_stay(failing: Option<Failing>) -> Result<(), Fault>
-    ensures { IfErr result (λ fault. fault ≡ Refused → ⊥) }
+// Notes the stage. Fails if the call is to fail, or if the stage can't begin.
+fn try_prepare(
+    alloc: Global,
+    entries: &[Entry],
+    prepared: &mut Option<Journal>,
+    work: &Work,
+    stage: Stage,
+    failing: Option<Failing>,
+) -> Result<(), Fault>
+    ensures asked { OnOk result (said prepared.new ≡ Some (journal_of work.now stage)) }
+    ensures can { OnOk result (CanBegin work.now stage (entries_tree entries.now)) }
+    ensures refused { IfErr result (λ fault. fault ≡ Refused → ¬ CanBegin work.now stage (entries_tree entries.now)) }
 {
     if failing.is_some() {
         return Err(Fault::Failed);
     }
+    if !can_begin(entries, work, stage) {
+        return Err(Fault::Refused);
+    }
+    let Ok(journal) = Journal::of(alloc, work, stage) else {
+        return Err(Fault::OutOfMemory);
+    };
+    *prepared = Some(journal);
+    Ok(())
+}
+
+// Notes the stage. Fails if the call is to fail, or if it wasn't asked whether the stage can begin, or if it can't end.
+fn try_complete(
+    alloc: Global,
+    entries: &[Entry],
+    prepared: &Option<Journal>,
+    completed: &mut Option<Journal>,
+    work: &Work,
+    stage: Stage,
+    failing: Option<Failing>,
+) -> Result<(), Fault>
+    ensures prepared { OnOk result (said prepared.now ≡ Some (journal_of work.now stage)) }
+    ensures asked { OnOk result (said completed.new ≡ Some (journal_of work.now stage)) }
+    ensures can { OnOk result (CanEnd work.now stage (entries_tree entries.now)) }
+    ensures refused { IfErr result (λ fault. fault ≡ Refused → said prepared.now ≡ Some (journal_of work.now stage)
+        → ¬ CanEnd work.now stage (entries_tree entries.now)) }
+{
+    if failing.is_some() {
+        return Err(Fault::Failed);
+    }
+    let Ok(journal) = Journal::of(alloc, work, stage) else {
+        return Err(Fault::OutOfMemory);
+    };
+    if !says(prepared, &journal) {
+        return Err(Fault::Refused);
+    }
+    if !can_end(entries, work, stage) {
+        return Err(Fault::Refused);
+    }
+    *completed = Some(journal);
     Ok(())
 }
 
@@ -378,30 +562,59 @@ impl Executor for MemoryDisk {
     // what the disk has, what a crash may leave, and how many calls have failed
     ghost state = { state_of };
 
-    fn prepare(&mut self, _work: &Work, _stage: Stage) -> Result<(), Fault> {
+    fn prepare(&mut self, work: &Work, stage: Stage) -> Result<(), Fault> {
         let failing = next_failure(&mut self.failure);
-        counted(&mut self.faults, try_stay(failing))
+        let outcome = try_prepare(
+            self.alloc,
+            &self.now.entries,
+            &mut self.prepared,
+            work,
+            stage,
+            failing,
+        );
+        counted(&mut self.faults, outcome)
     }
 
     fn act(&mut self, _work: &Work, action: Action<'_>) -> Result<(), Fault> {
         let failing = next_failure(&mut self.failure);
-        let outcome = try_act(self.alloc, &mut self.now, &mut self.past, action, failing);
+        let asked = is_asked(&self.prepared, &self.now.journal);
+        self.completed = None;
+        let outcome = try_act(
+            self.alloc,
+            &mut self.now,
+            &mut self.past,
+            asked,
+            action,
+            failing,
+        );
         counted(&mut self.faults, outcome)
     }
 
-    fn complete(&mut self, _work: &Work, _stage: Stage) -> Result<(), Fault> {
+    fn complete(&mut self, work: &Work, stage: Stage) -> Result<(), Fault> {
         let failing = next_failure(&mut self.failure);
-        counted(&mut self.faults, try_stay(failing))
+        let outcome = try_complete(
+            self.alloc,
+            &self.now.entries,
+            &self.prepared,
+            &mut self.completed,
+            work,
+            stage,
+            failing,
+        );
+        counted(&mut self.faults, outcome)
     }
 
-    fn enter(&mut self, _work: &Work, stage: Stage) -> Result<(), Fault> {
+    fn enter(&mut self, work: &Work, stage: Stage) -> Result<(), Fault> {
         let failing = next_failure(&mut self.failure);
-        let outcome = try_put_journal(
+        let allowed = can_come_to(&self.completed, &self.now.journal, stage);
+        let outcome = try_enter(
             self.alloc,
             &mut self.now,
             &mut self.past,
             &mut self.durable,
-            Some(stage),
+            work,
+            stage,
+            allowed,
             failing,
         );
         counted(&mut self.faults, outcome)
@@ -409,12 +622,14 @@ impl Executor for MemoryDisk {
 
     fn end(&mut self, _work: &Work) -> Result<(), Fault> {
         let failing = next_failure(&mut self.failure);
+        let allowed = is_end_known(&self.completed, &self.now.journal);
         let outcome = try_put_journal(
             self.alloc,
             &mut self.now,
             &mut self.past,
             &mut self.durable,
             None,
+            allowed,
             failing,
         );
         counted(&mut self.faults, outcome)
@@ -434,13 +649,15 @@ impl Initiator for MemoryDisk {
     // the new texts that it writes
     ghost texts = { texts_of };
 
-    fn begin(&mut self, _work: &Work) -> Result<(), Fault> {
+    fn begin(&mut self, work: &Work) -> Result<(), Fault> {
         let failing = next_failure(&mut self.failure);
         let outcome = try_begin(
             self.alloc,
             &mut self.now,
             &mut self.past,
             &mut self.durable,
+            &mut self.completed,
+            work,
             failing,
         );
         counted(&mut self.faults, outcome)
@@ -448,6 +665,7 @@ impl Initiator for MemoryDisk {
 
     fn write(&mut self, number: usize, text: &TextFile) -> Result<(), Fault> {
         let failing = next_failure(&mut self.failure);
+        self.completed = None;
         let outcome = try_write(
             self.alloc,
             &mut self.now,

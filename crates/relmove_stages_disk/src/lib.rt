@@ -5,7 +5,7 @@
 //!
 //! ```text
 //! the disk           disk
-//! one action         actions
+//! one action         actions    texts
 //! what is where      entries    moment
 //! one path           entry      fault
 //! ```
@@ -14,7 +14,7 @@
 pub use self::disk::MemoryDisk;
 pub use self::entry::{Entry, Node};
 pub use self::fault::{Failing, Failure, Fault};
-pub use self::moment::Moment;
+pub use self::moment::{Journal, Moment};
 
 mod actions;
 mod disk;
@@ -22,3 +22,4 @@ mod entries;
 mod entry;
 mod fault;
 mod moment;
+mod texts;

@@ -1,4 +1,4 @@
-//! The tests of `relmove_stages`, over `relmove_stages_disk`.
+//! The tests of `relmove_stages` and `relmove_planned`, over `relmove_stages_disk`.
 #![tactic(auto)]
 
 #[cfg(test)]

@@ -1,3 +1,4 @@
 mod example;
+mod moves;
 mod runs;
 mod trial;

@@ -1,12 +1,9 @@
 -- The directories above a path, those that moves leave, and those that a run makes; and the texts of a set.
-use Rattle.std.proofs.Common.{All, Bool, cond, ◌||◌, ◌⊎◌, ◌≡◌, ◌≢◌, ℕ, zero, suc, ◌<◌, ◌≤◌, ◌-◌, true, false, List, [], ◌∷◌, ◌++◌, Option, Some, None, inl, inr, is_some, Contains, String, Global, ◌+◌, map, take, length, get_or, string_bytes, refl, sym, ap, subst, ◌∙◌, append_assoc, append-nil, length-append, arith}
-use Rattle.std.specs.Prelude.{⊤}
-use Rattle.std.specs.List.{AllPairs, AllZip, Any, list_any, zip}
-use Rattle.std.specs.BTreeMap.{is_at}
+use Rattle.std.proofs.Common.{All, ◌≡◌, ◌≢◌, ℕ, ◌<◌, ◌≤◌, ◌-◌, true, false, List, [], ◌∷◌, ◌++◌, Option, Some, None, inl, inr, is_some, Contains, String, Global, ◌+◌, map, take, length, get_or, string_bytes, refl, sym, ap, subst, ◌∙◌, append_assoc, append-nil, length-append, arith}
+use Rattle.std.specs.List.{AllPairs, AllZip, Any, zip}
 use Rattle.std.specs.BTreeSet.{insert_key}
-use Rattle.std.specs.Set.{remove_key}
 use Rattle.std.proofs.lemmas.Bool.{cases_lt, false≢true}
-use Rattle.std.proofs.lemmas.List.{get_or-map, get_or-reverse, get_or_append_left, get_or_default, length-map, length-reverse, map_push, nil_from_length, take_more}
+use Rattle.std.proofs.lemmas.List.{get_or-map, get_or-reverse, get_or_append_left, length-map, length-reverse, map_push, nil_from_length, take_more}
 use Rattle.std.proofs.lemmas.List.Elements.{All-map, All-weaker, AllZip-push, Contains-append_cases, Contains-append_left, Contains-append_right, Contains-push}
 use Rattle.std.proofs.lemmas.List.Quantifiers.{Any-push}
 use Rattle.std.proofs.lemmas.Map.Keys.{Less-from_sorted}
@@ -15,7 +12,7 @@ use Rattle.std.proofs.lemmas.Option.{none-some}
 use Rattle.std.proofs.lemmas.Slice.Zip.{get_or-zip, length-zip}
 use Rattle.std.specs.Cmp.Lexicographic.{slice_cmp}
 use Rattle.std.specs.List.Sorted.{IsStrictlySortedBy}
-use Rattle.std.specs.Ordering.{is_eq, match_ordering, nat_cmp}
+use Rattle.std.specs.Ordering.{match_ordering, nat_cmp}
 use Rattle.std.specs.declared.cmp.Ordering.{Ordering}
 use Rattle.std.specs.declared.cmp.Ordering.TheVariants.{Less, Equal, Greater}
 use mathlib.Core.List.{reverse}
@@ -28,7 +25,6 @@ use Rattle.relative_path.specs.declared.path.RelativePath.{RelativePath}
 use Rattle.relative_path.proofs.ForCallers.{last_name-name}
 use Rattle.relative_path_places.specs.declared.normal_view.NormalView.{NormalView}
 use Rattle.relative_path_places.specs.Views.{view_components, view_text}
-use Rattle.relative_path_links.specs.declared.site.MovedSitePage.{MovedSitePage}
 use Rattle.relative_path_moves.specs.declared.moves.Move as declared
 use Rattle.relative_path_moves.specs.Moves.{Move, move_at, written_moves, AreApart, AreNamed, turned}
 use Rattle.relative_path_places.specs.PlaceIndex.{IsFoundAt, IsNoneAt}
@@ -36,7 +32,7 @@ use Rattle.relative_path_moves.specs.TreeMoves.{AtTreePath}
 use Rattle.relmove_checks.specs.Moves.{move_of}
 use Rattle.relmove_checks.proofs.ForCallers.{length-written, move_at-written, same_front, some_long}
 use Rattle.relmove_steps.specs.StagingNames.{IsNumbered, numbered_name}
-use Rattle.relmove_steps.specs.Directories.{AreAllLeftBehind, AreMissing, AreWithout, AreMissingTexts, HasDirectory, HasLeftBehind, HaveTextOf, IsDirectoryAbove, IsLeftBehindByMove, IsLinked, IsMissingText, IsTextTakenTo, LeavesTo, LeaveToNames, moves_to_names}
+use Rattle.relmove_steps.specs.Directories.{AreAllLeftBehind, AreMissing, AreMissingTexts, HasDirectory, HasLeftBehind, HaveTextOf, IsDirectoryAbove, IsLeftBehindByMove, IsMissingText, IsTextTakenTo, LeavesTo, LeaveToNames, moves_to_names}
 use Rattle.relmove_steps.specs.Actions.{AboveFirst, AreAmong, ActionTexts, with_carried, with_removed}
 use Rattle.relmove_steps.proofs.NewFilesLemmas.{components-numbered_name}
 use Rattle.relmove_steps.proofs.OrderLemmas.{map-reverse, nat_cmp-self}
@@ -225,199 +221,30 @@ IsLeftBehindByMove-here table moves k path cs normal now text l here is has ther
   }),
 )
 
--- ---- a set of texts without some of them
-
-module _ {K : Type 0} (test : K → Bool) (text_of : K → List ℕ) where
-  -- a text stays if none of its keys passes the test
-  Contains-remove_key : (ks : List K) (text : List ℕ) → ((k : K) → test k ≡ true → text_of k ≢ text)
-      → Contains (map text_of ks) text → Contains (map text_of (remove_key test ks)) text
-  Contains-remove_key [] text differ has = has
-  Contains-remove_key (x ∷ xs) text differ has =
-      by (test x) refl (Contains-append_cases (text_of x ∷ []) (map text_of xs) text has)
-      (Contains-remove_key xs text differ)
-    where
-      single : Contains (text_of x ∷ []) text → text_of x ≡ text
-      single (zero, within, is) = is
-      single (suc k, within, is) = absurd (let w : suc k < 1 = within in omega (arith, w))
-
-      by : (b : Bool) → test x ≡ b → Contains (text_of x ∷ []) text ⊎ Contains (map text_of xs) text
-          → (Contains (map text_of xs) text → Contains (map text_of (remove_key test xs)) text)
-          → Contains (map text_of (cond b xs (x ∷ remove_key test xs))) text
-      by true is (inl here) kept = absurd (differ x is (single here))
-      by true is (inr later) kept = later
-      by false is (inl here) kept = Contains-append_left (text_of x ∷ []) (map text_of (remove_key test xs)) text here
-      by false is (inr later) kept = Contains-cons (text_of x) (map text_of (remove_key test xs)) text (kept later)
-
-  -- what is left was there
-  Contains-removed : (ks : List K) (text : List ℕ) → Contains (map text_of (remove_key test ks)) text
-      → Contains (map text_of ks) text
-  Contains-removed [] text has = has
-  Contains-removed (x ∷ xs) text has = by (test x) has (Contains-removed xs text)
-    where
-      by : (b : Bool) → Contains (map text_of (cond b xs (x ∷ remove_key test xs))) text
-          → (Contains (map text_of (remove_key test xs)) text → Contains (map text_of xs) text)
-          → Contains (map text_of (x ∷ xs)) text
-      by true has more = Contains-cons (text_of x) (map text_of xs) text has
-      by false has more = elim (Contains-append_cases (text_of x ∷ []) (map text_of (remove_key test xs)) text has) [
-        | inl here ↦ Contains-append_left (text_of x ∷ []) (map text_of xs) text here
-        | inr later ↦ Contains-cons (text_of x) (map text_of xs) text (more later)
-      ]
-
-  -- if no key passes the test, no key has a text whose keys all pass it
-  Contains-none : (ks : List K) (text : List ℕ) → list_any test ks ≡ false → ((k : K) → text_of k ≡ text → test k ≡ true)
-      → ¬ Contains (map text_of ks) text
-  Contains-none [] text none passes (k, within, is) = let w : k < 0 = within in omega (arith, w)
-  Contains-none (x ∷ xs) text none passes (zero, within, is) = by (test x) (passes x is) none
-    where
-      by : (b : Bool) → b ≡ true → (b || list_any test xs) ≡ false → ⊥
-      by true is none = false≢true (sym none)
-      by false is none = false≢true is
-  Contains-none (x ∷ xs) text none passes (suc k, within, is) =
-      Contains-none xs text (by (test x) none) passes (k, omega (arith, within), is)
-    where
-      by : (b : Bool) → (b || list_any test xs) ≡ false → list_any test xs ≡ false
-      by true none = absurd (false≢true (sym none))
-      by false none = none
-
-pub AreWithout-remove_key : (before after : List (String Global)) (value : List ℕ)
-    → after ≡ remove_key (is_at (λ k. slice_cmp nat_cmp value (string_bytes k))) before
-    → list_any (is_at (λ k. slice_cmp nat_cmp value (string_bytes k))) after ≡ false
-    → AreWithout (λ text. text ≡ value) (map string_bytes before) (map string_bytes after)
-AreWithout-remove_key before after value is none = record {
-  kept = λ text has not.
-      subst (λ keys. Contains (map string_bytes keys) text) (sym is)
-      (Contains-remove_key test string_bytes before text (λ k passes same. not (sym (exact k passes ∙ same))) has);
-  only = λ text has. (
-    Contains-removed test string_bytes before text (subst (λ keys. Contains (map string_bytes keys) text) is has),
-    λ same. Contains-none test string_bytes after text none (λ k same_2. passes k (same_2 ∙ same)) has,
-  );
-}
-  where
-    test : String Global → Bool
-    test = is_at (λ k. slice_cmp nat_cmp value (string_bytes k))
-
-    exact : (k : String Global) → test k ≡ true → value ≡ string_bytes k
-    exact k passes = exact_bytes value (string_bytes k) (by (slice_cmp nat_cmp value (string_bytes k)) passes)
-      where
-        by : (o : Ordering) → is_eq o ≡ true → o ≡ Equal
-        by Less is = absurd (false≢true is)
-        by Equal is = refl
-        by Greater is = absurd (false≢true is)
-
-    passes : (k : String Global) → string_bytes k ≡ value → test k ≡ true
-    passes k same = rw (same, slice_cmp-self value) refl
-
--- without what is the same
-pub AreWithout-same : (one other : List ℕ → Type 0) (before after : List (List ℕ)) → ((text : List ℕ) → one text → other text)
-    → ((text : List ℕ) → other text → one text) → AreWithout one before after → AreWithout other before after
-AreWithout-same one other before after forth back without = record {
-  kept = λ text has not. without.kept text has (λ is. not (forth text is));
-  only = λ text has. let (had, not) = without.only text has in (had, λ is. not (back text is));
-}
-
--- P holds of one of the first k elements
-abbrev pub AnyBelow : {X : Type 0} → ℕ → (X → Type 0) → List X → Type 0
-AnyBelow {X} k P xs = (j : ℕ) × (x : X) × (j < k) × (get_or xs j x ≡ x) × P x
-
-pub AreWithout-none : {X : Type 0} (P : List ℕ → X → Type 0) (xs : List X) (texts : List (List ℕ))
-    → AreWithout (λ text. AnyBelow 0 (P text) xs) texts texts
-AreWithout-none P xs texts = record {
-  kept = λ text has not. has;
-  only = λ text has. (has, λ (j, x, less, is, holds). absurd (omega (arith, less)));
-}
-
--- nothing goes if there is none of these
-pub AreWithout-still : (gone : List ℕ → Type 0) (texts : List (List ℕ)) → ((text : List ℕ) → ¬ gone text)
-    → AreWithout gone texts texts
-AreWithout-still gone texts none = record { kept = λ text has not. has; only = λ text has. (has, none text) }
-
--- without those of one element more
-pub AreWithout-next : {X : Type 0} (P : List ℕ → X → Type 0) (xs : List X) (k : ℕ) (x : X) (before mid after : List (List ℕ))
-    → k < length xs → get_or xs k x ≡ x → AreWithout (λ text. AnyBelow k (P text) xs) before mid
-    → AreWithout (λ text. P text x) mid after → AreWithout (λ text. AnyBelow (k + 1) (P text) xs) before after
-AreWithout-next P xs k x before mid after within at first second = record {
-  kept = λ text has not.
-      second.kept text
-      (first.kept text has (λ (j, y, less, is, holds). not (j, y, omega (arith, less), is, holds)))
-      (λ holds. not (k, x, omega arith, at, holds));
-  only = λ text has.
-      let (there, not_x) = second.only text has in
-      let (had, not_before) = first.only text there in (
-        had,
-        λ (j, y, less, is, holds). elim (cases_lt j k) [
-          | inl earlier ↦ not_before (j, y, earlier, is, holds)
-          | inr no_earlier ↦
-              let last : j ≡ k = omega (arith, less, no_earlier) in
-              let same : y ≡ x =
-              sym is ∙ ap (λ j. get_or xs j y) last ∙ get_or_default xs k y x within ∙ at in
-              not_x (subst (P text) same holds)
-        ],
-      );
-}
-
--- without those of all elements
-pub AreWithout-all : {X : Type 0} (P : List ℕ → X → Type 0) (xs : List X) (k : ℕ) (before after : List (List ℕ))
-    → (k < length xs → ⊥) → AreWithout (λ text. AnyBelow k (P text) xs) before after
-    → k ≤ length xs → AreWithout (λ text. Any (P text) xs) before after
-AreWithout-all P xs k before after last without bound =
-    AreWithout-same (λ text. AnyBelow k (P text) xs) (λ text. Any (P text) xs) before after
-    (λ text (j, x, less, is, holds). (j, x, omega (arith, less, bound), is, holds))
-    (λ text (j, x, less, is, holds). (j, x, by j less, is, holds)) without
-  where
-    by : (j : ℕ) → j < length xs → j < k
-    by j less = elim (cases_lt k (length xs)) [
-      | inl later ↦ absurd (last later)
-      | inr past ↦ omega (arith, less, past)
-    ]
-
--- nothing is left at all
-pub AreWithout-empty : {X : Type 0} (P : List ℕ → X → Type 0) (xs : List X) (k : ℕ) (before : List (List ℕ)) → k ≤ length xs
-    → AreWithout (λ text. AnyBelow k (P text) xs) before [] → AreWithout (λ text. Any (P text) xs) before []
-AreWithout-empty P xs k before bound without = record {
-  kept = λ text has not.
-      without.kept text has (λ (j, x, less, is, holds). not (j, x, omega (arith, less, bound), is, holds));
-  only = λ text (j, within, is). absurd (let w : j < 0 = within in omega (arith, w));
-}
-
 -- where the directory is after the moves is one of the texts
 abbrev pub IsLeftAt : List Move → List (List ℕ) → NormalView → Type 0
-IsLeftAt table texts directory = HasLeftBehind table texts (λ text. ⊤) (view_components directory)
+IsLeftAt table texts directory = HasLeftBehind table texts (view_components directory)
 
 pub HasLeftBehind-more : (table : List Move) (texts more : List (List ℕ)) (cs : List Step)
-    → ((text : List ℕ) → Contains texts text → Contains more text) → HasLeftBehind table texts (λ text. ⊤) cs
-    → HasLeftBehind table more (λ text. ⊤) cs
+    → ((text : List ℕ) → Contains texts text → Contains more text) → HasLeftBehind table texts cs
+    → HasLeftBehind table more cs
 HasLeftBehind-more table texts more cs kept left =
-    record { text = left.text; now = left.now; has = λ any. kept left.text (left.has any) }
+    record { text = left.text; now = left.now; has = kept left.text left.has }
 
 pub HasLeftBehind-any : (table : List Move) (texts : List (List ℕ)) (directories : List NormalView) (cs : List Step)
     → All (IsLeftAt table texts) directories → Any (λ directory. view_components directory ≡ cs) directories
-    → HasLeftBehind table texts (λ text. ⊤) cs
+    → HasLeftBehind table texts cs
 HasLeftBehind-any table texts directories cs all (k, directory, within, is, same) =
-    subst (HasLeftBehind table texts (λ text. ⊤)) same (subst (IsLeftAt table texts) is (all k directory within))
+    subst (HasLeftBehind table texts) same (subst (IsLeftAt table texts) is (all k directory within))
 
-pub AreAllLeftBehind-reverse : (table moves : List Move) (news : List MovedSitePage) (first keys : List (String Global))
-    → ((k : ℕ) → k < length moves → (directory : List Step) → IsDirectoryAbove (move_at moves k).old directory
-    → HasLeftBehind table (map string_bytes first) (λ text. ⊤) directory)
-    → AreWithout (IsLinked table news) (map string_bytes first) (map string_bytes keys)
-    → AreAllLeftBehind table moves news (map string_bytes (reverse keys))
-AreAllLeftBehind-reverse table moves news first keys all without = record {
-  unlinked = subst (All (λ text. ¬ IsLinked table news text)) (sym (map-reverse string_bytes keys))
-      (All-reverse (λ text. ¬ IsLinked table news text) texts
-      (λ k d within.
-      (without.only (get_or texts k d) (k, within, get_or_default texts k (get_or texts k d) d within)).1));
-  complete = λ k within directory above.
-      let left = all k within directory above in
-      record {
-        text = left.text;
-        now = left.now;
-        has = λ not.
-            subst (λ texts. Contains texts left.text) (sym (map-reverse string_bytes keys))
-            (Contains-reverse texts left.text (without.kept left.text (left.has tt) not));
-      };
-}
-  where
-    texts : List (List ℕ)
-    texts = map string_bytes keys
+pub AreAllLeftBehind-reverse : (table moves : List Move) (keys : List (String Global))
+    → AreAllLeftBehind table moves (map string_bytes keys) → AreAllLeftBehind table moves (map string_bytes (reverse keys))
+AreAllLeftBehind-reverse table moves keys all = λ k within directory above.
+    HasLeftBehind-more table (map string_bytes keys) (map string_bytes (reverse keys)) directory
+    (λ text has.
+    subst (λ texts. Contains texts text) (sym (map-reverse string_bytes keys))
+    (Contains-reverse (map string_bytes keys) text has))
+    (all k within directory above)
 
 -- ---- the directories that are missing
 

@@ -1,11 +1,9 @@
 -- The directories that moves leave, and those that a run makes.
-use Rattle.std.specs.Prelude.{◌≡◌, ◌≢◌, ◌<◌, ℕ, List, [], ◌++◌, String, All, AllPairs, Contains, Some, length, map, slice_index_or, string_bytes}
-use Rattle.std.specs.List.{AllZip, Any, zip}
+use Rattle.std.specs.Prelude.{◌≡◌, ◌≢◌, ◌<◌, ℕ, List, [], ◌++◌, String, All, AllPairs, Contains, length, map, slice_index_or, string_bytes}
+use Rattle.std.specs.List.{AllZip, zip}
 use Rattle.std.specs.declared.alloc.Global.{Global}
 use Rattle.relative_path.specs.Steps.{Step, components}
 use Rattle.relative_path.specs.Normalizing.{IsNormalTextOf}
-use Rattle.relative_path_links.specs.declared.edit.Edit.{Edit}
-use Rattle.relative_path_links.specs.declared.site.MovedSitePage.{MovedSitePage}
 use Rattle.relative_path_moves.specs.Moves.{Move, move_at, AreApart}
 use Rattle.relative_path_places.specs.PlaceIndex.{IsNoneAt}
 use Rattle.relative_path_moves.specs.TreeMoves.{AtTreePath}
@@ -41,36 +39,16 @@ pub record IsDirectoryAbove (path directory : List Step) : Type 0 where
   pub normal_of : IsNormalTextOf path normal
   pub above : HasDirectory (components normal) directory
 
--- the link of the edit leads to where the text is the normal path after the moves
-pub record LinksTo (table : List Move) (text : List ℕ) (edit : Edit) : Type 0 where
-  pub file : List ℕ
-  pub file_is : edit.file ≡ Some file
-  pub now : AtTreePath table (components file) (λ target. IsNormalTextOf target text)
-
--- a link of the page leads there
-abbrev pub HasLinkTo : List Move → List ℕ → MovedSitePage → Type 0
-HasLinkTo table text new = Any (LinksTo table text) new.edits.items
-
--- a link of one of the pages leads there
-abbrev pub IsLinked : List Move → List MovedSitePage → List ℕ → Type 0
-IsLinked table news text = Any (HasLinkTo table text) news
-
--- the text is where the directory is after the moves, and one of the texts if P holds of it
-pub record HasLeftBehind (table : List Move) (texts : List (List ℕ)) (P : List ℕ → Type 0) (directory : List Step) : Type 0 where
+-- one of the texts is where the directory is after the moves
+pub record HasLeftBehind (table : List Move) (texts : List (List ℕ)) (directory : List Step) : Type 0 where
   pub text : List ℕ
   pub now : AtTreePath table directory (λ target. IsNormalTextOf target text)
-  pub has : P text → Contains texts text
+  pub has : Contains texts text
 
--- no link leads to one of the texts, and they are those of all directories above old paths to which no link leads
-pub record AreAllLeftBehind (table moves : List Move) (news : List MovedSitePage) (texts : List (List ℕ)) : Type 0 where
-  pub unlinked : All (λ text. ¬ IsLinked table news text) texts
-  pub complete : (k : ℕ) → k < length moves → (directory : List Step) → IsDirectoryAbove (move_at moves k).old directory
-      → HasLeftBehind table texts (λ text. ¬ IsLinked table news text) directory
-
--- the texts after are those before, without these
-pub record AreWithout (gone : List ℕ → Type 0) (before after : List (List ℕ)) : Type 0 where
-  pub kept : (text : List ℕ) → Contains before text → ¬ gone text → Contains after text
-  pub only : (text : List ℕ) → Contains after text → Contains before text × (¬ gone text)
+-- the texts have those of all directories above old paths
+abbrev pub AreAllLeftBehind : List Move → List Move → List (List ℕ) → Type 0
+AreAllLeftBehind table moves texts = (k : ℕ) → k < length moves → (directory : List Step)
+    → IsDirectoryAbove (move_at moves k).old directory → HasLeftBehind table texts directory
 
 -- ---- the directories that a run makes
 

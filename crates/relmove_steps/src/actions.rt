@@ -71,9 +71,9 @@ pub fn actions_of(
     // `emptied` has only directories above old paths, where they are after the moves
     ensures left { IfOk result
         (λ actions. AreLeftBehindByMoves now.entry.table.now now.entry.table.now actions.emptied.items) }
-    // and it has all of them to which no link leads, and no others
-    ensures all { IfOk result (λ actions. AreApart now.entry.table.now
-        → AreAllLeftBehind now.entry.table.now now.entry.table.now now.entry.pages.now (map string_bytes actions.emptied.items)) }
+    // and it has all of them
+    ensures all { IfOk result (λ actions. AreAllLeftBehind now.entry.table.now now.entry.table.now
+        (map string_bytes actions.emptied.items)) }
     // nothing leaves but from old paths, changed pages and the files of new texts
     ensures only { IfOk result (λ actions. OnlyTheseLeave now.entry.table.now
         (changed_paths pages.now now.entry.pages.now) (action_texts actions)) }
@@ -104,7 +104,7 @@ pub fn actions_of(
         made: directories_made(alloc, moves, &staging, now.after)?,
         placed: above_first(alloc, renames.arrivals)?,
         removed: renames.removed,
-        emptied: directories_emptied(alloc, now.pages, moves, now.table)?,
+        emptied: directories_emptied(alloc, moves, now.table)?,
     })
 }
 

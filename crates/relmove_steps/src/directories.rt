@@ -1,21 +1,20 @@
 //! The directories that a run makes, and those that it may empty.
-ghost use Rattle.std.specs.Prelude.{◌≡◌, ◌≢◌, ◌<◌, ℕ, All, AllPairs, List, Contains, IfOk, OnOk, length, map, string_bytes, ⊤};
+ghost use Rattle.std.specs.Prelude.{◌≡◌, ◌≢◌, ◌<◌, ℕ, All, AllPairs, List, Contains, IfOk, OnOk, length, map, string_bytes};
 ghost use Rattle.std.specs.List.{Any};
 ghost use mathlib.Core.List.{reverse};
 ghost use Rattle.relative_path.specs.Normalizing.{IsNormalTextOf};
 ghost use Rattle.relative_path.specs.RelativePath.{path_components};
 ghost use Rattle.relative_path.specs.Steps.{Step, components};
-ghost use Rattle.relative_path_moves.specs.Moves.{AreApart, Move, move_at, written_moves};
+ghost use Rattle.relative_path_moves.specs.Moves.{Move, move_at, written_moves};
 ghost use Rattle.relative_path_moves.specs.TreeMoves.{AtTreePath};
 ghost use Rattle.relative_path_places.specs.PlaceIndex.{Indexes, IsNoneAt};
 ghost use Rattle.relative_path_places.specs.Views.{view_text, view_components};
-ghost use Rattle.relmove_steps.specs.Directories.{AreAllLeftBehind, AreLeftBehindByMoves, AreMissingTexts, AreTaken, AreWithout, HasDirectory, HasLeftBehind, HasLinkTo, HaveTextOf, IsDirectoryAbove, IsLinked};
+ghost use Rattle.relmove_steps.specs.Directories.{AreAllLeftBehind, AreLeftBehindByMoves, AreMissingTexts, AreTaken, HasDirectory, HasLeftBehind, HaveTextOf, IsDirectoryAbove};
 ghost use Rattle.relmove_steps.specs.Actions.{BelowFirst};
 
 use relative_path::RelativePath;
-use relative_path_links::MovedSitePage;
 use relative_path_moves::TreeMoves;
-use relative_path_places::{NormalPath, NormalView, PlaceIndex, WrittenPath};
+use relative_path_places::{NormalView, PlaceIndex, WrittenPath};
 use relmove_checks::directory_above;
 use std::alloc::{AllocError, Global};
 use std::collections::BTreeSet;
@@ -69,11 +68,9 @@ fn add_missing(
     Ok(())
 }
 
-// Returns the directories that old paths leave and to which no link leads, where they are after the moves: the
-// deepest first.
+// Returns the directories that old paths leave, where they are after the moves: the deepest first.
 pub(crate) fn directories_emptied(
     alloc: Global,
-    news: &[MovedSitePage],
     moves: &[relative_path_moves::Move<'_>],
     table: &TreeMoves<'_>,
 ) -> Result<Vec<String>, AllocError>
@@ -81,14 +78,13 @@ pub(crate) fn directories_emptied(
     ensures different { IfOk result (λ emptied. AllPairs (λ one other. one ≢ other) (map string_bytes emptied.items)) }
     ensures left { IfOk result
         (λ emptied. AreLeftBehindByMoves table.now (written_moves moves.now) emptied.items) }
-    ensures all { IfOk result (λ emptied. AreApart table.now
-        → AreAllLeftBehind table.now (written_moves moves.now) news.now (map string_bytes emptied.items)) }
+    ensures all { IfOk result
+        (λ emptied. AreAllLeftBehind table.now (written_moves moves.now) (map string_bytes emptied.items)) }
 {
     let mut left = BTreeSet::new(alloc);
     for a in moves {
         add_left(alloc, &mut left, &a.old, table)?;
     }
-    remove_all_linked(alloc, &mut left, news, table)?;
     from_last(alloc, left)
 }
 
@@ -118,7 +114,7 @@ fn add_left(
     ensures kept { OnOk result ((text : List ℕ) → Contains (map string_bytes left.old.keys) text
         → Contains (map string_bytes left.new.keys) text) }
     ensures all { OnOk result ((directory : List Step) → IsDirectoryAbove (path_components path.now) directory
-        → HasLeftBehind table.now (map string_bytes left.new.keys) (λ text. ⊤) directory) }
+        → HasLeftBehind table.now (map string_bytes left.new.keys) directory) }
 {
     let path = path.normal();
     let directories = directories_above(alloc, path.view())?;
@@ -126,67 +122,6 @@ fn add_left(
         let now = table.normal_after(alloc, *directory)?;
         left.insert(now.into_relative_path_buf().into_string())?;
     }
-    Ok(())
-}
-
-// Removes the directories to which a link of one of the pages leads.
-fn remove_all_linked(
-    alloc: Global,
-    left: &mut BTreeSet<String>,
-    news: &[MovedSitePage],
-    table: &TreeMoves<'_>,
-) -> Result<(), AllocError>
-    ensures left { OnOk result ((moves : List Move) → AreLeftBehindByMoves table.now moves left.old.keys
-        → AreLeftBehindByMoves table.now moves left.new.keys) }
-    ensures without { OnOk result (AreApart table.now → AreWithout (IsLinked table.now news.now)
-        (map string_bytes left.old.keys) (map string_bytes left.new.keys)) }
-{
-    for new in news {
-        if left.is_empty() {
-            return Ok(());
-        }
-        remove_linked(alloc, left, new, table)?;
-    }
-    Ok(())
-}
-
-// Removes the directories to which a link of a page leads.
-fn remove_linked(
-    alloc: Global,
-    left: &mut BTreeSet<String>,
-    new: &MovedSitePage,
-    table: &TreeMoves<'_>,
-) -> Result<(), AllocError>
-    ensures left { OnOk result ((moves : List Move) → AreLeftBehindByMoves table.now moves left.old.keys
-        → AreLeftBehindByMoves table.now moves left.new.keys) }
-    ensures without { OnOk result (AreApart table.now → AreWithout (λ text. HasLinkTo table.now text new.now)
-        (map string_bytes left.old.keys) (map string_bytes left.new.keys)) }
-{
-    for edit in &new.edits {
-        if let Some(file) = &edit.file {
-            remove_file(alloc, left, file, table)?;
-        }
-    }
-    Ok(())
-}
-
-// Removes where a file is after the moves.
-fn remove_file(
-    alloc: Global,
-    left: &mut BTreeSet<String>,
-    file: &NormalPath,
-    table: &TreeMoves<'_>,
-) -> Result<(), AllocError>
-    ensures left { OnOk result ((moves : List Move) → AreLeftBehindByMoves table.now moves left.old.keys
-        → AreLeftBehindByMoves table.now moves left.new.keys) }
-    ensures without { OnOk result (AreApart table.now → AreWithout
-        (λ text. AtTreePath table.now (components file.now) (λ target. IsNormalTextOf target text))
-        (map string_bytes left.old.keys) (map string_bytes left.new.keys)) }
-{
-    match table.new_path(alloc, file)? {
-        Some(now) => left.remove(now.as_relative_path().as_str()),
-        None => left.remove(file.as_relative_path().as_str()),
-    };
     Ok(())
 }
 

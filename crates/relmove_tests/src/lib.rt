@@ -1,6 +1,5 @@
-//! The tests of `relmove_lib`, in crates of their own: so the gate proves its functions once. Here are those of moves and
-//! of their ends. `relmove_input_tests` has those of what a call is given, and `relmove_link_tests` those of what it says
-//! of links. `relmove_memory_tests` has those in which memory runs out.
+//! The tests of `relmove_lib` that aren't scripts, and those of it and of crates below it in which memory runs out, in a crate
+//! of their own: so the gate proves its functions once. The scripts are in `relmove_scripts`.
 #![tactic(auto)]
 
 #[cfg(test)]

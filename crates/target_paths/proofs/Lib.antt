@@ -2,6 +2,7 @@ pub mod FirstLemmas
 pub mod ForCallers
 pub mod NamesLemmas
 pub mod NumbersLemmas
+pub mod PartLemmas
 pub mod PiecesLemmas
 pub mod PlainLemmas
 pub mod ReadingLemmas

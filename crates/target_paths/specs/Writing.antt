@@ -1,7 +1,7 @@
 -- How a path is written as a target, so that a reader of each syntax takes it as that path: RFC 3986, sections 2.1
 -- (percent signs) and 4.2 (a colon in the first segment); CommonMark 0.31.2, sections 6.3 (destinations), 6.6 (values of
 -- attributes), and 4 and 5 (what begins a block).
-use Rattle.std.specs.Prelude.{◌≡◌, ℕ, ◌+◌, ◌/◌, ◌%◌, ◌-◌, Bool, not, ◌==◌, ◌&&◌, ◌||◌, nat_lt, List, [], ◌∷◌, ◌++◌, codes, length, if◌then◌else◌, slice_index}
+use Rattle.std.specs.Prelude.{◌≡◌, ℕ, ◌+◌, ◌/◌, ◌%◌, ◌-◌, Bool, not, ◌==◌, ◌&&◌, ◌||◌, nat_lt, List, [], ◌∷◌, ◌++◌, codes, length, take, if◌then◌else◌, slice_index}
 use Rattle.std.specs.Char.{encode_utf8}
 use Rattle.std.specs.Int.{is_in_range}
 use Rattle.std.specs.List.{list_all}
@@ -119,6 +119,10 @@ spelling path = spelling_from (first_position path) path
 -- the target that is written for a path
 abbrev pub target_of : List ℕ → List ℕ
 target_of path = spelling (path_written path)
+
+-- new is the old text, and then so many of the target's first bytes
+abbrev pub IsPartlyAppended : List ℕ → List ℕ → List ℕ → Type 0
+IsPartlyAppended old target new = (count : ℕ) × (new ≡ old ++ take count target)
 
 -- the byte is NUL, which no file's path has
 abbrev pub is_nul : ℕ → Bool

@@ -1,5 +1,5 @@
 //! How a path is written as a target.
-ghost use Rattle.std.specs.Prelude.{◌≡◌, ◌++◌, ◌<◌, true, false, length, IfOk, IsTrue, string_bytes};
+ghost use Rattle.std.specs.Prelude.{◌≡◌, ◌++◌, ◌<◌, true, false, length, IfOk, OnErr, IsTrue, string_bytes};
 ghost use Rattle.std.specs.List.{list_all, list_any};
 ghost use Rattle.target_paths.specs.Reading.{path_before, unknown};
 ghost use Rattle.target_paths.specs.Writing.{
@@ -10,6 +10,7 @@ ghost use Rattle.target_paths.specs.Writing.{
   is_escaped_later,
   is_nul,
   is_unescaped,
+  IsPartlyAppended,
   IsTakenAs,
   path_written,
   percent_text,
@@ -39,11 +40,14 @@ fn hexadecimal(digit: u8) -> char
 
 // Adds a percent sign and the two digits of a byte.
 fn push_percent(target: &mut String, byte: u8) -> Result<(), AllocError>
-    ensures { IfOk result (λ _. string_bytes target.new ≡ string_bytes target.old ++ percent_text byte) }
+    ensures text { IfOk result (λ _. string_bytes target.new ≡ string_bytes target.old ++ percent_text byte) }
+    ensures err { OnErr result
+        (IsPartlyAppended (string_bytes target.old) (percent_text byte) (string_bytes target.new)) }
 {
     target.push('%')?;
     target.push(hexadecimal(byte / 16))?;
-    target.push(hexadecimal(byte % 16))
+    target.push(hexadecimal(byte % 16))?;
+    Ok(())
 }
 
 // Returns the target that spells a path.
@@ -57,10 +61,13 @@ fn spelling(alloc: Global, path: &str) -> Result<String, AllocError>
 
 // Adds the target that spells a path.
 fn push_spelling(target: &mut String, path: &str) -> Result<(), AllocError>
-    ensures { IfOk result (λ _. string_bytes target.new ≡ string_bytes target.old ++ spelling path.now) }
+    ensures text { IfOk result (λ _. string_bytes target.new ≡ string_bytes target.old ++ spelling path.now) }
+    ensures err { OnErr result
+        (IsPartlyAppended (string_bytes target.old) (spelling path.now) (string_bytes target.new)) }
 {
     if has_room(target, path) && spells_itself(path) {
-        target.push_str(path)
+        target.push_str(path)?;
+        Ok(())
     } else {
         push_characters(target, path)
     }
@@ -118,7 +125,9 @@ impl ByteClass for EscapedLater {
 
 // Adds the target that spells a path, character by character.
 fn push_characters(target: &mut String, path: &str) -> Result<(), AllocError>
-    ensures { IfOk result (λ _. string_bytes target.new ≡ string_bytes target.old ++ spelling path.now) }
+    ensures text { IfOk result (λ _. string_bytes target.new ≡ string_bytes target.old ++ spelling path.now) }
+    ensures err { OnErr result
+        (IsPartlyAppended (string_bytes target.old) (spelling path.now) (string_bytes target.new)) }
 {
     let mut position = PathPosition::first(path);
     for character in path.chars() {
@@ -134,13 +143,16 @@ fn push_character(
     position: PathPosition,
     character: char,
 ) -> Result<(), AllocError>
-    ensures { IfOk result
+    ensures text { IfOk result
         (λ _. string_bytes target.new ≡ string_bytes target.old ++ written_character position character) }
+    ensures err { OnErr result (IsPartlyAppended (string_bytes target.old) (written_character position character)
+        (string_bytes target.new)) }
 {
     if position.escapes(character) {
         push_percent(target, character as u8)
     } else {
-        target.push(character)
+        target.push(character)?;
+        Ok(())
     }
 }
 
@@ -204,8 +216,8 @@ pub fn target_of_path(alloc: Global, path: &str) -> Result<String, AllocError>
 
 /// Appends to a text what [`target_of_path`] returns for a path.
 ///
-/// Allocates only if the text's capacity is too small. If the call fails, the text may have a part of the target at
-/// its end. Time is linear in the path.
+/// Allocates only if the text's capacity is too small. If the call fails, the text may have the first bytes of the
+/// target at its end. Time is linear in the path.
 ///
 /// ```
 /// let mut text = String::from_str(alloc, "[b](")?;
@@ -216,6 +228,9 @@ pub fn push_target_of_path(text: &mut String, path: &str) -> Result<(), AllocErr
     // the defined target of the path is appended
     ensures text { IfOk result
         (λ _. string_bytes text.new ≡ string_bytes text.old ++ target_of path.now) }
+    // a failed call appends at most the first bytes of the target
+    ensures err { OnErr result
+        (IsPartlyAppended (string_bytes text.old) (target_of path.now) (string_bytes text.new)) }
     // without NUL, each syntax reads back the path that is written
     ensures read { list_any is_nul path.now ≡ false
         → IsTakenAs (target_of path.now) (path_before (path_written path.now) (length (target_of path.now))) }

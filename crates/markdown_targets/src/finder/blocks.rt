@@ -139,6 +139,10 @@ impl BlockReader {
             Start::Text => self.text.begin(TextKind::Paragraph, from, line.end),
             Start::Heading => self.text.begin(TextKind::Heading, from, line.end),
             Start::Html(_) => self.text.begin(TextKind::Html, from, line.end),
+            Start::Underline => {
+                self.text.underline();
+                Ok(())
+            }
             _ => Ok(()),
         }
     }
@@ -217,16 +221,17 @@ impl BlockReader {
         Ok((cursor, marker.is_some()))
     }
 
-    // Returns what the rest of a line begins. An underline below definitions alone is text.
+    // Returns what the rest of a line begins. An underline below definitions alone is a thematic break or text.
     fn read_start(&self, cursor: Cursor<'_>, before: Before) -> Start {
         let start = Start::read(cursor, before);
-        if matches!(start, Start::Rule)
-            && !is_thematic_break(cursor.rest)
-            && is_definitions(self.text.last_text())
-        {
-            return Start::Text;
+        if !matches!(start, Start::Underline) || !is_definitions(self.text.last_text()) {
+            return start;
         }
-        start
+        if is_thematic_break(cursor.rest) {
+            Start::Rule
+        } else {
+            Start::Text
+        }
     }
 }
 
@@ -239,7 +244,7 @@ fn begins_break(cursor: Cursor<'_>, marker: Option<u8>) -> bool {
 // Returns the block that is open after its first line.
 fn leaf_after(start: Start, cursor: Cursor<'_>) -> Leaf {
     match start {
-        Start::Blank | Start::Heading | Start::Rule => Leaf::Nothing,
+        Start::Blank | Start::Heading | Start::Underline | Start::Rule => Leaf::Nothing,
         Start::Text => Leaf::Paragraph,
         Start::Code => Leaf::Code,
         Start::Fenced(fence) => Leaf::Fenced(fence),

@@ -65,6 +65,20 @@ pub(crate) fn run_end<F: Fn(u8) -> bool>(text: &[u8], from: usize, test: F) -> u
     text.len()
 }
 
+// Returns the end of a text without the bytes at its end that pass a test. The text begins at an offset.
+pub(crate) fn trim_end<F: Fn(u8) -> bool>(text: &[u8], start: usize, test: F) -> usize
+    requires callable { F.IsAlwaysCallable test }
+    requires within { start ≤ length text.now }
+    ensures { Skips text.now start result }
+{
+    for k in (start..text.len()).rev() {
+        if !test(text[k]) {
+            return k + 1;
+        }
+    }
+    start
+}
+
 // Returns the offset of the first byte of a class from an offset on, or the end of the text.
 fn first_at<C: ByteClass>(text: &[u8], from: usize, class: &C) -> usize
     requires { from ≤ length text.now }

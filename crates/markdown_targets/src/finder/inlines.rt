@@ -11,7 +11,7 @@ use crate::finder::definitions::{Definition, add_names};
 use crate::finder::html::{Endings, unclosed_end};
 use crate::finder::links::inline_link;
 use crate::finder::names::{Label, Names};
-use crate::finder::tags::StartTag;
+use crate::finder::tags::{StartTag, names_of_tag};
 use crate::finder::text_blocks::{TextBlocks, TextKind};
 use crate::span::PageSpan;
 use crate::target::{LinkTarget, LinkTargets, PassedOver, TargetKind, WhyPassedOver};
@@ -20,7 +20,7 @@ use std::alloc::{AllocError, Global};
 // Returns the targets of links, images, definitions and attributes, in the order in which these end, and what is passed
 // over.
 pub(crate) fn read_inlines(alloc: Global, text: &TextBlocks) -> Result<LinkTargets, AllocError> {
-    let mut reader = InlineReader::new(alloc, names(alloc, text)?)?;
+    let mut reader = InlineReader::new(alloc, text)?;
     for block in text.blocks() {
         if let Some(bytes) = text.text_through(*block) {
             reader.read_inlines_of_block(block.kind, bytes, block.start)?;
@@ -46,8 +46,10 @@ fn names(alloc: Global, text: &TextBlocks) -> Result<Names, AllocError> {
 // What is known while a page is read: of its block the brackets, the runs of backticks, the words that
 // end HTML, and how far the content of an element is text.
 #[derive(Drop)]
-struct InlineReader {
+pub(crate) struct InlineReader {
     found: LinkTargets,
+    // The values of `id` and `name`, if they are asked for.
+    element_names: Option<Vec<PageSpan>>,
     names: Names,
     brackets: Brackets,
     runs: BacktickRuns,
@@ -55,16 +57,24 @@ struct InlineReader {
     content_end: usize,
 }
 
+// A link or an image whose text is closed: its opening bracket, and the offset after it.
+#[derive(Clone, Copy)]
+pub(crate) struct ClosedLink {
+    pub(crate) bracket: Bracket,
+    pub(crate) after: usize,
+}
+
 impl InlineReader {
-    // Returns a reader that has read nothing.
-    fn new(alloc: Global, names: Names) -> Result<InlineReader, AllocError> {
+    // Returns a reader of a page that has read nothing but the names that the page defines.
+    fn new(alloc: Global, text: &TextBlocks) -> Result<InlineReader, AllocError> {
         Ok(InlineReader {
             found: LinkTargets {
                 targets: Vec::new(alloc),
                 passed_over: Vec::new(alloc),
                 has_base: false,
             },
-            names,
+            element_names: None,
+            names: names(alloc, text)?,
             brackets: Brackets::new(alloc),
             runs: BacktickRuns::new(alloc)?,
             endings: Endings::new(),
@@ -72,8 +82,45 @@ impl InlineReader {
         })
     }
 
+    // Returns such a reader that keeps the names of elements too.
+    pub(crate) fn with_element_names(
+        alloc: Global,
+        text: &TextBlocks,
+    ) -> Result<InlineReader, AllocError> {
+        let mut reader = InlineReader::new(alloc, text)?;
+        reader.element_names = Some(Vec::new(alloc));
+        Ok(reader)
+    }
+
+    // Returns the names of elements that were read.
+    pub(crate) fn into_element_names(self, alloc: Global) -> Vec<PageSpan> {
+        let InlineReader { element_names, .. } = self;
+        element_names.unwrap_or(Vec::new(alloc))
+    }
+
+    // Forgets what is known of a block, where another one begins.
+    pub(crate) fn begin_block(&mut self) {
+        self.brackets.clear();
+        self.endings = Endings::new();
+    }
+
+    // Sees the runs of backticks from an offset on. The text ends with its block.
+    pub(crate) fn see_runs(&mut self, text: &[u8], from: usize)
+        requires { from ≤ length text.now }
+    {
+        self.runs.see(text, from);
+    }
+
+    // Returns the end of the code span at an offset, or of the backticks that open none.
+    pub(crate) fn span_end(&self, text: &[u8], start: usize) -> usize
+        requires { start < length text.now }
+        ensures { Advances text.now start result }
+    {
+        self.runs.span_end(text, start)
+    }
+
     // Reads the block from an offset on. The text ends with it.
-    fn read_inlines_of_block(
+    pub(crate) fn read_inlines_of_block(
         &mut self,
         kind: TextKind,
         text: &[u8],
@@ -81,8 +128,7 @@ impl InlineReader {
     ) -> Result<(), AllocError>
         requires { start ≤ length text.now }
     {
-        self.brackets.clear();
-        self.endings = Endings::new();
+        self.begin_block();
         match kind {
             TextKind::Paragraph => {
                 let inlines = self.read_definitions(text, start)?;
@@ -94,7 +140,11 @@ impl InlineReader {
     }
 
     // Reads the definitions with which a paragraph begins, and returns the offset after them.
-    fn read_definitions(&mut self, text: &[u8], start: usize) -> Result<usize, AllocError>
+    pub(crate) fn read_definitions(
+        &mut self,
+        text: &[u8],
+        start: usize,
+    ) -> Result<usize, AllocError>
         requires { start ≤ length text.now }
         ensures { IfOk result (λ end. Skips text.now start end) }
     {
@@ -120,7 +170,7 @@ impl InlineReader {
 
     // Reads what is at an offset, and returns the offset after it. If it is only text, nothing changes, and the text goes
     // on to the next special byte.
-    fn read_inline(&mut self, text: &[u8], k: usize) -> Result<usize, AllocError>
+    pub(crate) fn read_inline(&mut self, text: &[u8], k: usize) -> Result<usize, AllocError>
         requires { k < length text.now }
         ensures text { is_only_text (slice_index text.now k) (slice_index text.now (k + 1)) ≡ true
             → (self.new ≡ self.old) × (result ≡ Ok (first_from is_special text.now (k + 1))) }
@@ -145,7 +195,7 @@ impl InlineReader {
 
     // Reads the autolink or the HTML at an offset, and returns the offset after it, or after the angle
     // where there is none.
-    fn read_angles(&mut self, text: &[u8], k: usize) -> Result<usize, AllocError>
+    pub(crate) fn read_angles(&mut self, text: &[u8], k: usize) -> Result<usize, AllocError>
         requires { k < length text.now }
         ensures { IfOk result (λ end. Advances text.now k end) }
     {
@@ -158,7 +208,7 @@ impl InlineReader {
         if let Some(tag) = html.tag
             && k >= self.content_end
         {
-            self.add_tag(text, tag)?;
+            self.add_tag(text, k, tag)?;
             self.content_end = tag.content_end(text, html.after);
         }
         Ok(html.after)
@@ -177,7 +227,7 @@ impl InlineReader {
 
     // Reads the next tag from an offset on, and returns the offset after it, or after its element if the
     // content of that is text.
-    fn read_tag(&mut self, text: &[u8], from: usize) -> Result<usize, AllocError>
+    pub(crate) fn read_tag(&mut self, text: &[u8], from: usize) -> Result<usize, AllocError>
         requires { from < length text.now }
         ensures { IfOk result (λ end. Advances text.now from end) }
     {
@@ -191,7 +241,7 @@ impl InlineReader {
         let Some(tag) = html.tag else {
             return Ok(html.after);
         };
-        self.add_tag(text, tag)?;
+        self.add_tag(text, start, tag)?;
         Ok(tag.content_end(text, html.after))
     }
 
@@ -200,16 +250,34 @@ impl InlineReader {
         requires { after ≤ length text.now }
         ensures { IfOk result (λ end. Skips text.now after end) }
     {
+        match self.close_link(text, after)? {
+            Some(link) => Ok(link.after),
+            None => Ok(after),
+        }
+    }
+
+    // Closes a bracket, and returns its link, if it is that of one.
+    pub(crate) fn close_link(
+        &mut self,
+        text: &[u8],
+        after: usize,
+    ) -> Result<Option<ClosedLink>, AllocError>
+        requires { after ≤ length text.now }
+        ensures { IfOk result (λ link. IfSome link (λ link. Skips text.now after link.after)) }
+    {
         let Some(bracket) = self.brackets.close() else {
-            return Ok(after);
+            return Ok(None);
         };
         let Some(end) = self.link_end(text, bracket, after)? else {
-            return Ok(after);
+            return Ok(None);
         };
         if bracket.opener == Opener::Link {
             self.brackets.deactivate();
         }
-        Ok(end)
+        Ok(Some(ClosedLink {
+            bracket,
+            after: end,
+        }))
     }
 
     // Returns the end of the link whose text ends at an offset.
@@ -279,8 +347,13 @@ impl InlineReader {
         Ok(None)
     }
 
-    // Adds the targets of a start tag.
-    fn add_tag(&mut self, text: &[u8], tag: StartTag<'_>) -> Result<(), AllocError> {
+    // Adds the targets of the start tag at an offset, and its names if they are asked for.
+    fn add_tag(&mut self, text: &[u8], start: usize, tag: StartTag<'_>) -> Result<(), AllocError> {
+        if let Some(names) = &mut self.element_names {
+            for value in names_of_tag(text, start).into_iter().flatten() {
+                names.push(value.span)?;
+            }
+        }
         if tag.is(b"base") && tag.href().is_some() {
             self.found.has_base = true;
             return Ok(());

@@ -25,7 +25,9 @@ pub(crate) enum Start {
     Fenced(Fence),
     // A block in HTML.
     Html(HtmlBlock),
-    // A thematic break, or the underline of a heading.
+    // The underline of a heading.
+    Underline,
+    // A thematic break.
     Rule,
 }
 
@@ -69,7 +71,10 @@ impl Start {
         if is_heading(text) {
             return Start::Heading;
         }
-        if is_rule(text, before) {
+        if before.is_paragraph() && is_underline(text) {
+            return Start::Underline;
+        }
+        if is_thematic_break(text) {
             return Start::Rule;
         }
         if let Some(fence) = Fence::read(text) {
@@ -83,11 +88,6 @@ impl Start {
 fn is_heading(text: &[u8]) -> bool {
     let level = run_length(text, b'#');
     level > 0 && level <= DEEPEST_HEADING && text.get(level).is_none_or(|&byte| is_blank(byte))
-}
-
-// Returns whether a text is a thematic break, or underlines the paragraph before it.
-fn is_rule(text: &[u8], before: Before) -> bool {
-    is_thematic_break(text) || (before.is_paragraph() && is_underline(text))
 }
 
 // Returns whether a text underlines a heading.

@@ -123,6 +123,31 @@ impl<'a> StartTag<'a> {
     }
 }
 
+// Returns the values of the first `id` and the first `name` of the start tag at an offset.
+pub(crate) fn names_of_tag(text: &[u8], start: usize) -> [Option<Value>; 2] {
+    let mut names = [None, None];
+    let Some(mut k) = tag_front_end(text, start) else {
+        return names;
+    };
+    while let Some(attribute) = Attribute::read(text, k) {
+        if names[0].is_none() && attribute.name.eq_ignore_ascii_case(b"id") {
+            names[0] = attribute.value;
+        }
+        if names[1].is_none() && attribute.name.eq_ignore_ascii_case(b"name") {
+            names[1] = attribute.value;
+        }
+        k = attribute.after;
+    }
+    names
+}
+
+// Returns the end of the angle and the name of the start tag at an offset.
+fn tag_front_end(text: &[u8], start: usize) -> Option<usize>
+    ensures { IfSome result (λ end. Advances text.now start end) }
+{
+    tag_name_end(text, skip_byte(text, start, b'<')?)
+}
+
 impl<'a> Attribute<'a> {
     // Returns the attribute at an offset, which begins with spaces.
     fn read(text: &'a [u8], start: usize) -> Option<Attribute<'a>>

@@ -20,6 +20,8 @@ pub(crate) struct TextBlock {
     pub(crate) kind: TextKind,
     pub(crate) start: usize,
     end: usize,
+    // Whether the block is a paragraph that an underline makes a heading.
+    pub(crate) is_underlined: bool,
 }
 
 // The page's bytes, with spaces in place of the markers of containers within the text of a block. So an offset
@@ -46,8 +48,20 @@ impl TextBlocks {
         start: usize,
         end: usize,
     ) -> Result<(), AllocError> {
-        self.blocks.push(TextBlock { kind, start, end })?;
+        self.blocks.push(TextBlock {
+            kind,
+            start,
+            end,
+            is_underlined: false,
+        })?;
         Ok(())
+    }
+
+    // Makes the last block a heading.
+    pub(crate) fn underline(&mut self) {
+        if let Some(block) = self.blocks.last_mut() {
+            block.is_underlined = true;
+        }
     }
 
     // Adds a line to the last block. It begins at an offset, and has the text `start..end`.

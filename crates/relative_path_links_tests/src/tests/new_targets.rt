@@ -2,7 +2,7 @@
 use super::{moves, same};
 use relative_path::RelativePath;
 use relative_path_links::{
-    Change, Edit, Markdown, MovedSitePage, SitePage, Unchanged, rewrite_site, targets,
+    Change, Edit, Markdown, MovedSitePage, SitePage, SiteRoot, Unchanged, rewrite_site, targets,
 };
 use relative_path_moves::TreeMoves;
 use relative_path_places::NormalPath;
@@ -194,7 +194,7 @@ fn after_move(alloc: Global, new: &str, text: &str) -> Result<Vec<MovedSitePage>
     let moves = TreeMoves::new(alloc, &moves)?;
     let path = NormalPath::of(alloc, RelativePath::new("index.md"))?;
     let page = SitePage { path: &path, text };
-    Ok(rewrite_site(alloc, &[page], &moves, &Markdown)?)
+    Ok(rewrite_site(alloc, &[page], &SiteRoot::unknown(), &moves, &Markdown)?)
 }
 
 // Fails where the page of a case doesn't become what it says, or a target of it isn't read as the new path then.

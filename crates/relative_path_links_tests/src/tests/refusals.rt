@@ -6,6 +6,7 @@ use std::alloc::{AllocError, Global};
 mod marks;
 mod rewriter;
 mod site_map;
+mod site_root;
 
 // A normal text of 524,288 components and 1,048,576 bytes.
 fn long_text(alloc: Global) -> Result<String, AllocError> {

@@ -10,8 +10,8 @@ ghost use Rattle.relative_path_links.specs.Targets.{HasTargets};
 use super::{moves, same};
 use relative_path::RelativePath;
 use relative_path_links::{
-    Change, Edit, Finder, MovedSitePage, SitePage, Target, Unchanged, are_in_order, rewrite_site,
-    targets,
+    Change, Edit, Finder, MovedSitePage, SitePage, SiteRoot, Target, Unchanged, are_in_order,
+    rewrite_site, targets,
 };
 use relative_path_moves::TreeMoves;
 use relative_path_places::NormalPath;
@@ -468,7 +468,13 @@ fn become_in(
     let finder = Counting::new(otherwise);
     let path = NormalPath::of(alloc, RelativePath::new("index.md"))?;
     let page = SitePage { path: &path, text };
-    let pages = rewrite_site(alloc, &vec![in alloc; page; count]?, moves, &finder)?;
+    let pages = rewrite_site(
+        alloc,
+        &vec![in alloc; page; count]?,
+        &SiteRoot::unknown(),
+        moves,
+        &finder,
+    )?;
     same(case, pages.len(), count)?;
     are_told(
         alloc,

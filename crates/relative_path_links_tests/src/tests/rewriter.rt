@@ -1,7 +1,7 @@
 use super::pages::PAGE;
 use super::{moves, same};
 use relative_path::RelativePath;
-use relative_path_links::{Change, Edit, Unchanged, edited, rewrite_links, targets};
+use relative_path_links::{Change, Edit, SiteRoot, Unchanged, edited, rewrite_links, targets};
 use relative_path_moves::{PageMove, TreeMoves};
 use relative_path_places::NormalPath;
 use std::alloc::{AllocError, Global};
@@ -116,7 +116,7 @@ fn after_move(
     page: &str,
 ) -> Result<EditedPage, AllocError> {
     let found = targets(alloc, page)?;
-    let edits = rewrite_links(alloc, page, &found, tree, moved)?;
+    let edits = rewrite_links(alloc, page, &found, &SiteRoot::unknown(), tree, moved)?;
     let text = edited(alloc, page, &edits)?;
     let left = left_in(alloc, &edits)?;
     Ok(EditedPage { text, left })
@@ -180,6 +180,45 @@ fn moves_the_targets_of_links(rt: HostRuntime) -> Result<(), Fail> {
 #[test]
 fn keeps_a_dot_and_a_slash_at_the_start(rt: HostRuntime) -> Result<(), Fail> {
     all_become(rt.alloc(), &MOVES, "docs/a.md", &DOTTED)
+}
+
+// Links to directories from a page in `docs/sub` that moves to the root, and what they become.
+const DIRECTORIES: [(&str, &str); 5] = [
+    ("[up](..) [up](../)", "[up](docs/) [up](docs/)"),
+    (
+        "[here](.) [here](./)",
+        "[here](docs/sub/) [here](./docs/sub/)",
+    ),
+    ("[up](../.) [up](./..)", "[up](docs/) [up](./docs/)"),
+    ("[x](x/..#t) [x](../x)", "[x](docs/sub/#t) [x](docs/x)"),
+    ("[root](../..) [root](../../)", "[root](./) [root](./)"),
+];
+
+#[test]
+fn writes_the_slash_of_a_directory(rt: HostRuntime) -> Result<(), Fail> {
+    all_become(
+        rt.alloc(),
+        &[("docs/sub/a.md", "b.md")],
+        "docs/sub/a.md",
+        &DIRECTORIES,
+    )
+}
+
+// The same from a page that moves down, to directories above it.
+const DIRECTORIES_ABOVE: [(&str, &str); 3] = [
+    ("[up](..) [up](../)", "[up](../..) [up](../../)"),
+    ("[here](.) [x](x/.)", "[here](..) [x](../x/)"),
+    ("[up](../.) [up](./..)", "[up](../..) [up](../..)"),
+];
+
+#[test]
+fn writes_no_slash_after_two_dots(rt: HostRuntime) -> Result<(), Fail> {
+    all_become(
+        rt.alloc(),
+        &[("docs/sub/a.md", "docs/sub/in/a.md")],
+        "docs/sub/a.md",
+        &DIRECTORIES_ABOVE,
+    )
 }
 
 #[test]
@@ -289,7 +328,7 @@ fn leads_to(alloc: Global, tree: &TreeMoves<'_>, (path, page, file): WithFile) -
     let path = NormalPath::of(alloc, RelativePath::new(path))?;
     let moved = tree.moved_page(alloc, &path)?;
     let found = targets(alloc, page)?;
-    let edits = rewrite_links(alloc, page, &found, tree, &moved)?;
+    let edits = rewrite_links(alloc, page, &found, &SiteRoot::unknown(), tree, &moved)?;
     has_file(page, &edits, file)
 }
 

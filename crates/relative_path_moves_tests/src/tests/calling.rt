@@ -3,7 +3,7 @@ ghost use Rattle.std.specs.Prelude.{IfOk};
 ghost use Rattle.relative_path.specs.Steps.{components};
 ghost use Rattle.relative_path.specs.Relating.{Leads};
 ghost use Rattle.relative_path.specs.RelativePath.{path_components};
-ghost use Rattle.relative_path_moves.specs.Moves.{ForFileOfLink};
+ghost use Rattle.relative_path_moves.specs.Moves.{ForFileOfLink, moves_of};
 
 use super::{same, text_of};
 use relative_path::{RelativePath, RelativePathBuf};
@@ -19,7 +19,7 @@ pub fn reference_after(
     page: RelativePath<'_>,
     reference: RelativePath<'_>,
 ) -> Result<RelativePathBuf, ReferenceError>
-    ensures { IfOk result (λ new. ForFileOfLink table.now
+    ensures { IfOk result (λ new. ForFileOfLink (moves_of table.now)
         (path_components page.entry) (path_components reference.entry)
         (λ directory. Leads directory (components new.text))) }
 {

@@ -1,61 +1,50 @@
 //! Texts in the caller's bytes.
 use super::same;
 use relative_path::{RelativePath, WriteError, bytes};
-use std::alloc::{AllocError, Global};
+use std::alloc::Global;
 use std::test::Fail;
 
 // What each byte is before a call.
 const UNWRITTEN: u8 = b'#';
 
-// So many bytes, the first of which are a text.
-fn bytes_of(alloc: Global, text: &str, size: usize) -> Result<Vec<u8>, AllocError> {
-    let mut out = Vec::with_capacity(alloc, size)?;
-    for place in 0..size {
-        let byte = text.as_bytes().get(place).copied();
-        out.push(byte.unwrap_or(UNWRITTEN))?;
+// What a call returns that writes this text into so many bytes.
+fn len_or_need(text: &str, size: usize) -> Result<usize, WriteError> {
+    if size < text.len() {
+        Err(WriteError::NoRoom(text.len()))
+    } else {
+        Ok(text.len())
     }
-    Ok(out)
 }
 
-// Fails where a call didn't write this text at the start of the bytes.
-fn has_written(
-    case: &str,
-    answer: Result<usize, WriteError>,
-    out: &[u8],
-    expected: &str,
+// Whether a text is at the start of the bytes, or nothing where it doesn't fit.
+fn has_text_or_nothing(out: &[u8], text: &str) -> bool {
+    match out.get(..text.len()) {
+        Some(written) => written == text.as_bytes(),
+        None => out.iter().all(|byte| *byte == UNWRITTEN),
+    }
+}
+
+// Fails where a path has another normal form in these bytes.
+fn normalizes_into(
+    alloc: Global,
+    path: RelativePath<'_>,
+    normal: &str,
+    out: &mut [u8],
 ) -> Result<(), Fail> {
-    same(case, answer, Ok(expected.len()))?;
-    let found = out.get(..expected.len());
-    same(case, found, Some(expected.as_bytes()))
+    let expected = len_or_need(normal, out.len());
+    same(path.as_str(), bytes::normalize(alloc, path, out), expected)?;
+    same(path.as_str(), has_text_or_nothing(out, normal), true)
 }
 
-// Fails where a call didn't say how many bytes it needs, or wrote.
-fn has_refused(
-    case: &str,
-    answer: Result<usize, WriteError>,
-    out: &[u8],
-    needed: usize,
-    before: &[u8],
-) -> Result<(), Fail> {
-    same(case, answer, Err(WriteError::NoRoom(needed)))?;
-    same(case, out, before)
-}
-
-// Whether a path has this normal form in so many bytes, or in fewer none.
+// Fails where it has another in so many bytes.
 fn normalizes_in(
     alloc: Global,
     path: RelativePath<'_>,
     normal: &str,
     size: usize,
 ) -> Result<(), Fail> {
-    let before = bytes_of(alloc, "", size)?;
-    let mut out = bytes_of(alloc, "", size)?;
-    let answer = bytes::normalize(alloc, path, &mut out);
-    if size < normal.len() {
-        has_refused(path.as_str(), answer, &out, normal.len(), &before)
-    } else {
-        has_written(path.as_str(), answer, &out, normal)
-    }
+    let mut out = vec![in alloc; UNWRITTEN; size]?;
+    normalizes_into(alloc, path, normal, &mut out)
 }
 
 /// Fails where a path has another normal form in the caller's bytes: as many as it has, as many as its normal form has,
@@ -67,7 +56,9 @@ pub fn normalizes(alloc: Global, path: RelativePath<'_>, normal: &str) -> Result
 }
 
 // A text, a path, and the text after its push.
-const PUSHES: [(&str, &str, &str); 8] = [
+type Push = (&'static str, &'static str, &'static str);
+
+const PUSHES: [Push; 8] = [
     ("", "", ""),
     ("", "foo", "foo"),
     ("", "//foo", "/foo"),
@@ -78,25 +69,23 @@ const PUSHES: [(&str, &str, &str); 8] = [
     ("é", "../ü", "é/../ü"),
 ];
 
-// Whether two pushes into these bytes make the text of a row, or leave the first text if the bytes are too few.
-fn pushes_onto(out: &mut [u8], first: &[u8], row: (&str, &str, &str)) -> Result<(), Fail> {
-    let (text, path, expected) = row;
+// Fails where two pushes fill these bytes with another text than the row's, or with another than its first where they
+// are too few.
+fn pushes_onto(out: &mut [u8], row: Push) -> Result<(), Fail> {
+    let (text, path, pushed) = row;
     let Ok(len) = bytes::push(out, 0, RelativePath::new(text)) else {
         return Err(Fail::new("too few bytes for the first text"));
     };
+    let expected = len_or_need(pushed, out.len());
+    let left = if expected.is_ok() { pushed } else { text };
     let answer = bytes::push(out, len, RelativePath::new(path));
-    if out.len() < expected.len() {
-        has_refused(path, answer, out, expected.len(), first)
-    } else {
-        has_written(path, answer, out, expected)
-    }
+    same(path, answer, expected)?;
+    same(path, &*out, left.as_bytes())
 }
 
-// Whether they do so in so many bytes.
-fn pushes_in(alloc: Global, row: (&str, &str, &str), size: usize) -> Result<(), Fail> {
-    let first = bytes_of(alloc, row.0, size)?;
-    let mut out = bytes_of(alloc, "", size)?;
-    pushes_onto(&mut out, &first, row)
+fn pushes_in(alloc: Global, row: Push, size: usize) -> Result<(), Fail> {
+    let mut out = vec![in alloc; UNWRITTEN; size]?;
+    pushes_onto(&mut out, row)
 }
 
 #[test]

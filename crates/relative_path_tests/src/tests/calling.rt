@@ -136,9 +136,9 @@ pub fn link(
         × IsSome (file_name_of (path_text from.entry))) × (IsSome (walk [] (path_components to.entry))
         × IsSome (file_name_of (path_text to.entry))))) }
 {
-    let Some(page) = output(alloc, out_dir, from)? else {
+    if output(alloc, out_dir, from)?.is_none() {
         return Ok(None);
-    };
+    }
     let Some(target) = output(alloc, out_dir, to)? else {
         return Ok(None);
     };
@@ -257,54 +257,59 @@ fn links_from_a_copy(rt: HostRuntime) -> Result<(), std::test::Fail> {
 #[test]
 fn refuses_what_climbs() -> Result<(), std::test::Fail> {
     let paths = ["img/../docs", "img/../../docs"].map(RelativePath::new);
-    let [inside, outside] = paths;
-    let stay = (stays_below(inside), stays_below(outside));
     let all_stay = (all_stay_below(&paths), all_stay_below(&paths[..1]));
-    let depths = (depth(inside), depth(outside));
-    super::same(
-        "stays_below, all_stay_below and depth",
-        (stay, all_stay, depths),
-        ((true, false), (false, true), (3, 4)),
-    )
+    super::same("all_stay_below", all_stay, (false, true))?;
+    super::same("stays_below", paths.map(stays_below), [true, false])?;
+    super::same("depth", paths.map(depth), [3, 4])
 }
 
 #[test]
 fn makes_pages_of_sources(rt: HostRuntime) -> Result<(), std::test::Fail> {
-    let alloc = rt.alloc();
     let [out_dir, source, above] = ["../out", "guide/./a.tar.md", "../b.md"].map(RelativePath::new);
-    let page = output(alloc, out_dir, source);
+    let page = output(rt.alloc(), out_dir, source);
     super::may_give("output", page, Some("../out/guide/./a.tar.html"))?;
-    super::may_give("output above", output(alloc, out_dir, above), None)?;
-    super::may_give(
-        "index_of",
-        index_of(alloc, source),
-        Some("guide/./index.html"),
-    )?;
-    let index = index_of(alloc, RelativePath::new("guide/.."));
-    super::may_give("index_of without a name", index, None)?;
-    let file = artifact(alloc, out_dir, source, "o");
+    super::may_give("output above", output(rt.alloc(), out_dir, above), None)?;
+    let file = artifact(rt.alloc(), out_dir, source, "o");
     super::gives("artifact", file, "../out/guide/a.tar.o")?;
-    let way = link(alloc, out_dir, source, RelativePath::new("b.md"));
+    let way = link(rt.alloc(), out_dir, source, RelativePath::new("b.md"));
     super::may_give("link", way, Some("../b.html"))
 }
 
 #[test]
+fn makes_an_index_of_pages(rt: HostRuntime) -> Result<(), std::test::Fail> {
+    let [page, no_page] = ["guide/./a.tar.md", "guide/.."].map(RelativePath::new);
+    super::may_give(
+        "a page",
+        index_of(rt.alloc(), page),
+        Some("guide/./index.html"),
+    )?;
+    super::may_give("no page", index_of(rt.alloc(), no_page), None)
+}
+
+#[test]
 fn finds_links_by_theorems(rt: HostRuntime) -> Result<(), std::test::Fail> {
-    let alloc = rt.alloc();
-    let [here, above, inside] = ["docs/../img/a.png", "../img", "docs/guide"].map(
-        RelativePath::new,
-    );
-    super::gives("place_of", place_of(alloc, here), "img/a.png")?;
-    let way = link_from(alloc, inside, above);
-    super::may_give("link_from", way, Some("../../../img"))?;
-    super::may_give("link_from above", link_from(alloc, above, inside), None)?;
-    let way = link_between(alloc, inside, above);
-    super::may_give("link_between", way, Some("../../../img"))?;
+    let [above, inside] = ["../img", "docs/guide"].map(RelativePath::new);
+    let expected = Some("../../../img");
+    super::may_give("link_from", link_from(rt.alloc(), inside, above), expected)?;
+    super::may_give(
+        "link_from above",
+        link_from(rt.alloc(), above, inside),
+        None,
+    )?;
+    super::may_give(
+        "link_between",
+        link_between(rt.alloc(), inside, above),
+        expected,
+    )?;
+    let place = place_of(rt.alloc(), RelativePath::new("docs/../img/a.png"));
+    super::gives("place_of", place, "img/a.png")
+}
+
+#[test]
+fn finds_parts_by_theorems() -> Result<(), std::test::Fail> {
+    let [docs, inside, above] = ["docs", "docs/guide", "../img"].map(RelativePath::new);
+    let rest = rest_of(inside, docs).map(RelativePath::as_str);
+    super::same("rest_of", rest, Some("guide"))?;
     let are_normal = (is_normal_inside(inside), is_normal_inside(above));
-    let rest = super::text_of_some(rest_of(inside, RelativePath::new("docs")));
-    super::same(
-        "is_normal_inside and rest_of",
-        (are_normal, rest),
-        ((true, false), Some("guide")),
-    )
+    super::same("is_normal_inside", are_normal, (true, false))
 }

@@ -21,5 +21,6 @@ fn copies_texts(rt: HostRuntime) -> Result<(), Fail> {
 #[test]
 fn makes_room(rt: HostRuntime) -> Result<(), Fail> {
     let buf = RelativePathBuf::with_capacity(rt.alloc(), 15)?;
-    same("with_capacity", (buf.len(), buf.spare() >= 15), (0, true))
+    same("with_capacity", (buf.len(), buf.spare() >= 15), (0, true))?;
+    gives("new", Ok(RelativePathBuf::new(rt.alloc())), "")
 }

@@ -1,43 +1,26 @@
 //! Each text of up to three letters out of four, beside what the definitions say of it: where paths lead is walked from
 //! bases of each depth.
-use super::{normalizes, same, text_of};
+use super::normalizing::normalizes_in_each_way;
+use super::same;
 use relative_path::{Component, RelativePath};
 use std::alloc::{AllocError, Global};
 use std::test::Fail;
 
 const LETTERS: [&str; 5] = ["", "/", ".", "a", "é"];
 
+// How many texts of three letters there are, some of which are the same, since a letter may be none.
+const COUNT: usize = 125;
+
 // More names than a text of three letters goes up.
 const DEEPEST: usize = 3;
 
-// Each of these texts followed by each letter.
-fn longer(alloc: Global, texts: &[String]) -> Result<Vec<String>, AllocError> {
-    let mut found = Vec::new(alloc);
-    for text in texts {
-        for letter in &LETTERS {
-            found.push(format!(in alloc; "{text}{letter}")?)?;
-        }
-    }
-    Ok(found)
+fn letter(number: usize) -> &'static str {
+    LETTERS[number % 5]
 }
 
-// Some of them come more than once.
-fn short_texts(alloc: Global) -> Result<Vec<String>, AllocError> {
-    let texts = longer(alloc, &[String::new(alloc)])?;
-    let texts = longer(alloc, &texts)?;
-    longer(alloc, &texts)
-}
-
-// Goes from a place where a component leads. Returns whether it leads anywhere.
-fn step<'a>(place: &mut Vec<&'a str>, component: Component<'a>) -> Result<bool, AllocError> {
-    match component {
-        Component::CurDir => Ok(true),
-        Component::Normal(name) => {
-            place.push(name)?;
-            Ok(true)
-        }
-        Component::ParentDir => Ok(place.pop().is_some()),
-    }
+fn short_text(alloc: Global, number: usize) -> Result<String, AllocError> {
+    let (first, second, third) = (letter(number / 25), letter(number / 5), letter(number));
+    format!(in alloc; "{first}{second}{third}")
 }
 
 // The place that a path leads to from a base of some names, if there is one.
@@ -48,24 +31,17 @@ fn lead<'a>(
 ) -> Result<Option<Vec<&'a str>>, AllocError> {
     let mut place = vec![in alloc; "base"; depth]?;
     for component in path.components() {
-        if !step(&mut place, component)? {
-            return Ok(None);
+        match component {
+            Component::CurDir => {}
+            Component::Normal(name) => place.push(name)?,
+            Component::ParentDir => {
+                if place.pop().is_none() {
+                    return Ok(None);
+                }
+            }
         }
     }
     Ok(Some(place))
-}
-
-fn leads(alloc: Global, depth: usize, path: RelativePath<'_>) -> Result<bool, AllocError> {
-    Ok(lead(alloc, depth, path)?.is_some())
-}
-
-fn lead_to_one_place(
-    alloc: Global,
-    depth: usize,
-    path: RelativePath<'_>,
-    other: RelativePath<'_>,
-) -> Result<bool, AllocError> {
-    Ok(lead(alloc, depth, path)? == lead(alloc, depth, other)?)
 }
 
 // The fewest names of a base from which two paths lead to different places, or one of them to none.
@@ -75,7 +51,7 @@ fn parted(
     other: RelativePath<'_>,
 ) -> Result<Option<usize>, AllocError> {
     for depth in 0..=DEEPEST {
-        if !lead_to_one_place(alloc, depth, path, other)? {
+        if lead(alloc, depth, path)? != lead(alloc, depth, other)? {
             return Ok(Some(depth));
         }
     }
@@ -89,26 +65,27 @@ fn is_out_of_reach(
     to: RelativePath<'_>,
 ) -> Result<bool, AllocError> {
     for depth in 0..=DEEPEST {
-        if !leads(alloc, depth, from)? && leads(alloc, depth, to)? {
+        if lead(alloc, depth, from)?.is_none() && lead(alloc, depth, to)?.is_some() {
             return Ok(true);
         }
     }
     Ok(false)
 }
 
-// Fails where the normal form of a text isn't normal, or leads elsewhere.
+// Fails where a text has several normal forms, or one that isn't normal or leads elsewhere.
 fn has_a_normal_form(alloc: Global, text: &str) -> Result<(), Fail> {
+    normalizes_in_each_way(alloc, text)?;
     let path = RelativePath::new(text);
-    let buf = path.normalize(alloc)?;
-    normalizes(alloc, text, text_of(&buf))?;
-    let normal = buf.as_relative_path();
+    let normal = path.normalize(alloc)?;
+    let normal = normal.as_relative_path();
     let found = (normal.is_normalized(), parted(alloc, normal, path)?);
     same(text, found, (true, None))
 }
 
 #[test]
 fn normal_forms(rt: HostRuntime) -> Result<(), Fail> {
-    for text in &short_texts(rt.alloc())? {
+    for number in 0..COUNT {
+        let text = short_text(rt.alloc(), number)?;
         has_a_normal_form(rt.alloc(), text.as_str())?;
     }
     Ok(())
@@ -141,13 +118,19 @@ fn has_a_way(alloc: Global, text: &str, other: &str) -> Result<(), Fail> {
     same(text, (fault, apart), expected)
 }
 
+fn has_a_way_to_each(alloc: Global, text: &str) -> Result<(), Fail> {
+    for number in 0..COUNT {
+        let other = short_text(alloc, number)?;
+        has_a_way(alloc, text, other.as_str())?;
+    }
+    Ok(())
+}
+
 #[test]
 fn pairs(rt: HostRuntime) -> Result<(), Fail> {
-    let texts = short_texts(rt.alloc())?;
-    for text in &texts {
-        for other in &texts {
-            has_a_way(rt.alloc(), text.as_str(), other.as_str())?;
-        }
+    for number in 0..COUNT {
+        let text = short_text(rt.alloc(), number)?;
+        has_a_way_to_each(rt.alloc(), text.as_str())?;
     }
     Ok(())
 }

@@ -1,155 +1,134 @@
-//! The components of a path, from either end.
-use super::decompositions::{self, Decomposition};
+//! Iterators from either end, and from both in turn. The mask in which they keep where slashes are knows 64 bytes.
 use super::same;
-use relative_path::{Component, Iter, RelativePath};
+use relative_path::{Component, RelativePath};
+use std::alloc::{AllocError, Global};
 use std::test::Fail;
 
-fn component(text: &str) -> Component<'_> {
-    match text {
-        "." => Component::CurDir,
-        ".." => Component::ParentDir,
-        name => Component::Normal(name),
-    }
+fn is_name(piece: &&str) -> bool {
+    !piece.is_empty()
 }
 
-// Whether the path has the components with these texts.
-fn has_components(path: RelativePath<'_>, texts: &[&str]) -> bool {
-    let mut components = path.components();
-    for text in texts {
-        if components.next() != Some(component(text)) {
-            return false;
-        }
-    }
-    components.next().is_none()
+// Whether iterators give the texts between slashes, as the standard library cuts them, from the front or from the back.
+fn gives_pieces_from_an_end(text: &str) -> bool {
+    let path = RelativePath::new(text);
+    path.iter().eq(text.split('/').filter(is_name))
+        && path.into_iter().eq(text.split('/').filter(is_name))
+        && path.iter().rev().eq(text.rsplit('/').filter(is_name))
 }
 
-// Whether an iterator gives these texts.
-fn is_of(mut iter: Iter<'_>, texts: &[&str]) -> bool {
-    for text in texts {
-        if iter.next() != Some(*text) {
-            return false;
-        }
-    }
-    iter.next().is_none()
-}
-
-// Whether an iterator gives these texts from its end.
-fn is_of_from_its_end(mut iter: Iter<'_>, texts: &[&str]) -> bool {
-    for text in texts.iter().rev() {
-        if iter.next_back() != Some(*text) {
-            return false;
-        }
-    }
-    iter.next_back().is_none()
-}
-
-// Whether `iter` and `into_iter` give these texts, and `iter` backwards too.
-pub fn gives(path: RelativePath<'_>, texts: &[&str]) -> (bool, bool, bool) {
-    (
-        is_of(path.iter(), texts),
-        is_of(path.into_iter(), texts),
-        is_of_from_its_end(path.iter(), texts),
-    )
-}
-
-// Fails where a path has other components than its row says.
-fn gives_those_of(rows: &[Decomposition]) -> Result<(), Fail> {
-    for (text, expected, _, _) in rows {
-        let path = RelativePath::new(text);
-        let found = (has_components(path, expected), gives(path, expected));
-        same(text, found, (true, (true, true, true)))?;
-    }
-    Ok(())
-}
-
-#[test]
-fn gives_the_components_and_their_texts() -> Result<(), Fail> {
-    gives_those_of(decompositions::SLASHES)?;
-    gives_those_of(decompositions::DOTS)?;
-    gives_those_of(decompositions::NAMES)
-}
-
-// A text, calls of `next` (F) and `next_back` (B), the text that the last one gives (none: no text), and what it leaves.
-type Walk = (&'static str, &'static str, &'static str, &'static str);
-
-const BOTH_ENDS: &[Walk] = &[
-    ("/a/./b/", "", "", "/a/./b/"),
-    ("/a/./b/", "F", "a", "./b/"),
-    ("/a/./b/", "FB", "b", "."),
-    ("/a/./b/", "FBF", ".", ""),
-    ("/a/./b/", "FBFF", "", ""),
-    ("/a/./b/", "FBFFB", "", ""),
-];
-
-const IN_TURN: &[Walk] = &[
-    ("a/b/c/d/e", "F", "a", "b/c/d/e"),
-    ("a/b/c/d/e", "FB", "e", "b/c/d"),
-    ("a/b/c/d/e", "FBF", "b", "c/d"),
-    ("a/b/c/d/e", "FBFB", "d", "c"),
-    ("a/b/c/d/e", "FBFBF", "c", ""),
-    ("a/b/c/d/e", "FBFBFB", "", ""),
-    ("a/b/c/d/e", "FBFBFBF", "", ""),
-];
-
-const ONE_END: &[Walk] = &[
-    ("/hello///world//", "F", "hello", "world//"),
-    ("/hello///world//", "FF", "world", ""),
-    ("/hello///world//", "FFF", "", ""),
-    ("baz/bar///foo", "B", "foo", "baz/bar"),
-    ("baz/bar///foo", "BB", "bar", "baz"),
-    ("baz/bar///foo", "BBB", "baz", ""),
-    ("baz/bar///foo", "BBBB", "", ""),
-];
-
-// What the last of these calls gives, and what it leaves.
-fn after<'a>(text: &'a str, calls: &str) -> (&'a str, &'a str) {
+// Whether they give them from both ends in turn.
+fn gives_pieces_in_turn(text: &str) -> bool {
+    let mut pieces = text.split('/').filter(is_name);
+    let mut texts = RelativePath::new(text).iter();
     let mut walk = RelativePath::new(text).components();
-    let mut taken = None;
-    for call in calls.chars() {
-        taken = match call {
-            'F' => walk.next(),
-            _ => walk.next_back(),
-        };
+    for _ in 0..=text.len() {
+        let ends = (pieces.next(), pieces.next_back());
+        let components = (
+            walk.next().map(Component::as_str),
+            walk.next_back().map(Component::as_str),
+        );
+        if components != ends || (texts.next(), texts.next_back()) != ends {
+            return false;
+        }
     }
-    let left = walk.as_relative_path().as_str();
-    (taken.map_or("", Component::as_str), left)
+    walk.as_relative_path().as_str().is_empty()
 }
 
-// Fails where calls take or leave something else than their row says.
-fn takes_those_of(rows: &[Walk]) -> Result<(), Fail> {
-    for (text, calls, component, left) in rows {
-        same(calls, after(text, calls), (*component, *left))?;
+/// Whether iterators give the texts between slashes, from each end and from both in turn.
+pub fn gives_pieces(text: &str) -> bool {
+    gives_pieces_from_an_end(text) && gives_pieces_in_turn(text)
+}
+
+// Between blanks: texts whose components the stored lines of `conformance` have.
+const TEXTS: &str =
+    " foo / /foo foo/ /foo/ foo/bar /foo/bar ///foo/// ///foo///bar ./. /.. ../ foo/. foo/./ foo/.. \
+    foo/../ foo/./bar foo/../bar ./a . ./ a/b a//b a/./b a/b/c .foo /a/./b/";
+
+#[test]
+fn gives_the_texts_between_slashes() -> Result<(), Fail> {
+    for text in TEXTS.split(' ') {
+        let left = RelativePath::new(text).components().as_relative_path();
+        same(text, (gives_pieces(text), left.as_str()), (true, text))?;
+    }
+    Ok(())
+}
+
+// Fails where iterators give other texts of these pieces in one text than those between its slashes.
+fn cuts(alloc: Global, pieces: &[&str]) -> Result<(), Fail> {
+    let text = pieces.join(alloc, "")?;
+    same(text.as_str(), gives_pieces(text.as_str()), true)
+}
+
+// A text of so many bytes with these slashes at this place, as far as they fit, and the same with a slash at its end.
+fn cuts_at(alloc: Global, len: usize, place: usize, slashes: &str) -> Result<(), Fail> {
+    let after = len.saturating_sub(place.saturating_add(slashes.len()));
+    let first = "a".repeat(alloc, place)?;
+    let last = "b".repeat(alloc, after)?;
+    cuts(alloc, &[first.as_str(), slashes, last.as_str()])?;
+    cuts(alloc, &[first.as_str(), slashes, last.as_str(), "/"])
+}
+
+fn cuts_at_each_place(alloc: Global, len: usize) -> Result<(), Fail> {
+    for place in 0..len {
+        cuts_at(alloc, len, place, "/")?;
+        cuts_at(alloc, len, place, "//")?;
+        cuts_at(alloc, len, place, "///")?;
     }
     Ok(())
 }
 
 #[test]
-fn takes_from_both_ends() -> Result<(), Fail> {
-    takes_those_of(BOTH_ENDS)?;
-    takes_those_of(IN_TURN)?;
-    takes_those_of(ONE_END)
+fn one_slash_or_some(rt: HostRuntime) -> Result<(), Fail> {
+    for len in 62..=65 {
+        cuts_at_each_place(rt.alloc(), len)?;
+    }
+    Ok(())
+}
+
+// A slash at every second place after a piece: names of one byte, and what the piece makes of the first.
+fn cuts_after(alloc: Global, piece: &str, names: &str) -> Result<(), Fail> {
+    cuts(alloc, &[piece, names])?;
+    cuts(alloc, &[piece, names, "b"])?;
+    cuts(alloc, &[piece, names, "bb"])
 }
 
 #[test]
-fn copies_go_their_own_way() -> Result<(), Fail> {
-    let path = RelativePath::new("a/./b");
-    let mut walk = path.components();
+fn many_slashes(rt: HostRuntime) -> Result<(), Fail> {
+    let names = "a/".repeat(rt.alloc(), 31)?;
+    for piece in &["a", "/", "//", "é/"] {
+        cuts_after(rt.alloc(), piece, names.as_str())?;
+    }
+    Ok(())
+}
+
+#[test]
+fn copies_of_components_go_their_own_way() -> Result<(), Fail> {
+    let mut walk = RelativePath::new("a/./b").components();
     let copy = walk.clone()?;
     let found = (walk == copy, walk.next(), walk == copy);
     let expected = (true, Some(Component::Normal("a")), false);
-    same("equal, taken, equal", found, expected)?;
-    let mut texts = path.iter();
+    same("equal, taken, equal", found, expected)
+}
+
+#[test]
+fn copies_of_texts_go_their_own_way() -> Result<(), Fail> {
+    let mut texts = RelativePath::new("a/./b").iter();
     let mut copy = texts.clone()?;
     let found = (texts.next(), copy.next_back(), copy.next());
     same("texts", found, (Some("a"), Some("b"), Some("a")))
 }
 
+const COMPONENTS: [(Component<'static>, &str); 4] = [
+    (Component::CurDir, "."),
+    (Component::ParentDir, ".."),
+    (Component::Normal("..."), "..."),
+    (Component::Normal("c:"), "c:"),
+];
+
 #[test]
 fn a_component_is_a_path() -> Result<(), Fail> {
-    for text in &[".", "..", "...", "c:"] {
-        let path = component(text).as_relative_path();
-        let found = (path.as_str(), has_components(path, &[text]));
-        same(text, found, (*text, true))?;
+    for (component, text) in &COMPONENTS {
+        same(text, component.as_relative_path().as_str(), *text)?;
     }
     Ok(())
 }

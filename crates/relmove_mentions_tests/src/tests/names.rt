@@ -96,6 +96,26 @@ const ENDINGS: [(&str, &str, &str); 6] = [
     ("", "api/ img img/", ""),
 ];
 
+// A page whose stem is `.` or `..`, and what mentions it: neither its directory nor the one above.
+const WITH_DOTS: [(&str, &str, &str); 3] = [
+    ("", "d a a/b ./d", ""),
+    (
+        "",
+        "d/..md a/b/...md",
+        "d/..md > d/..md; a/b/...md > a/b/...md; ",
+    ),
+    (
+        "d",
+        "..html ../a/b/...html",
+        "..html > d/..md; ../a/b/...html > a/b/...md; ",
+    ),
+];
+
+#[test]
+fn stems_of_dots(rt: HostRuntime) -> Result<(), Fail> {
+    rows_mention(rt.alloc(), &["d/..md", "a/b/...md"], &WITH_DOTS)
+}
+
 #[test]
 fn names_from_the_top(rt: HostRuntime) -> Result<(), Fail> {
     rows_mention(rt.alloc(), &OLDS, &FROM_THE_TOP)

@@ -107,8 +107,23 @@ fn percent_signs(rt: HostRuntime) -> Result<(), Fail> {
 // The first of two paths with one name is mentioned.
 #[test]
 fn first_of_two(rt: HostRuntime) -> Result<(), Fail> {
-    let row = ("", "a a.md a.html", "a > a; a.md > a.md; a.html > a.md; ");
-    rows_mention(rt.alloc(), &["a", "a.md"], &[row])
+    let alloc = rt.alloc();
+    let text = "a a.md a.html";
+    let first = ("", text, "a > a; a.md > a.md; a.html > a.md; ");
+    rows_mention(alloc, &["a", "a.md"], &[first])?;
+    let second = ("", text, "a > a.md; a.md > a.md; a.html > a.md; ");
+    rows_mention(alloc, &["a.md", "a"], &[second])
+}
+
+// The same for the pages for which a directory can stand.
+#[test]
+fn first_of_two_index_pages(rt: HostRuntime) -> Result<(), Fail> {
+    let alloc = rt.alloc();
+    let text = "d/ d/index.html";
+    let first = ("", text, "d/ > d/README.md; d/index.html > d/README.md; ");
+    rows_mention(alloc, &["d/README.md", "d/index.md"], &[first])?;
+    let second = ("", text, "d/ > d/index.md; d/index.html > d/index.md; ");
+    rows_mention(alloc, &["d/index.md", "d/README.md"], &[second])
 }
 
 // The same as `rows_mention` for one text in the root, of which spans were read.
@@ -137,7 +152,7 @@ fn read_spans(rt: HostRuntime) -> Result<(), Fail> {
     text_mentions(alloc, text, &[TextSpan { start: 7, end: 11 }], two)?;
     text_mentions(alloc, text, &[TextSpan { start: 10, end: 12 }], two)?;
     text_mentions(alloc, text, &[TextSpan { start: 5, end: 7 }], all)?;
-    text_mentions(alloc, text, &[TextSpan { start: 8, end: 8 }], two)?;
+    text_mentions(alloc, text, &[TextSpan { start: 8, end: 8 }], all)?;
     text_mentions(
         alloc,
         text,

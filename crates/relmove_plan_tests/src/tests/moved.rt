@@ -125,23 +125,12 @@ fn add_made(
     Ok(())
 }
 
-// The directories above old paths, where they are after the moves, without those to which one of the links leads.
-fn directories_left(
-    alloc: Global,
-    moves: &[(String, String)],
-    links: &[String],
-) -> Result<Vec<String>, AllocError> {
-    let mut linked = Vec::new(alloc);
-    for link in links {
-        linked.push(path_after(alloc, moves, link)?)?;
-    }
+// The directories above old paths, where they are after the moves.
+fn directories_left(alloc: Global, moves: &[(String, String)]) -> Result<Vec<String>, AllocError> {
     let mut left = Vec::new(alloc);
     for (old, _) in moves {
         for directory in directories_above(alloc, old)? {
-            let now = path_after(alloc, moves, &directory)?;
-            if !has(&linked, &now) {
-                left.push(now)?;
-            }
+            left.push(path_after(alloc, moves, &directory)?)?;
         }
     }
     Ok(left)
@@ -157,18 +146,17 @@ fn is_emptied(rows: &[(String, String)], left: &[String], path: &str) -> bool {
     has(left, path)
 }
 
-/// The tree after the moves. `links` are the paths to which the links of its pages lead, and `pages` have the new texts.
+/// The tree after the moves. `pages` have the new texts.
 pub fn tree_after(
     alloc: Global,
     rows: &[(String, String)],
     moves: &[(String, String)],
-    links: &[String],
     pages: &[MovedSitePage],
 ) -> Result<Files, AllocError> {
     let now = with_new_texts(alloc, rows, pages)?;
     let mut after = rows_after(alloc, &now, moves)?;
     add_made(alloc, &mut after, moves)?;
-    let left = directories_left(alloc, moves, links)?;
+    let left = directories_left(alloc, moves)?;
     let mut nodes = Vec::new(alloc);
     for (path, text) in &after {
         if !is_emptied(&after, &left, path) {

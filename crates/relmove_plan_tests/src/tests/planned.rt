@@ -1,7 +1,7 @@
 //! Plans for the trees of the vectors.
 use super::model::DIRECTORY;
 use relative_path::RelativePath;
-use relative_path_links::{Markdown, SitePage};
+use relative_path_links::{Markdown, SitePage, SiteRoot};
 use relative_path_places::NormalPath;
 use relmove_plan::{Entry, Kind, NameRule, Plan, Refusal, SiteTree, make_plan};
 use std::alloc::{AllocError, Global};
@@ -65,6 +65,7 @@ pub fn planned<'a>(
     let tree = SiteTree {
         entries: &entries,
         pages: &pages,
+        root: &SiteRoot::unknown(),
     };
     Ok(make_plan(alloc, tree, &pairs, rule, &Markdown))
 }

@@ -16,11 +16,10 @@ const FIRST_SEED: u64 = 1;
 
 const NAMES: &[&str] = &["a", "b", "c", "d", "e", "f", ".relmove-1", ".relmove-2"];
 
-// A tree, the paths to which the links of its pages lead, and moves.
+// A tree, and moves.
 #[derive(Drop)]
 struct Trial {
     rows: Vec<(String, String)>,
-    links: Vec<String>,
     moves: Vec<(String, String)>,
 }
 
@@ -84,24 +83,23 @@ fn target_to(alloc: Global, page: &str, path: &str) -> Result<String, AllocError
     Ok(target)
 }
 
-// The paths to which the links of the pages lead, and the texts of the pages with these links.
+// The rows, each page with a link to a path.
 fn with_links(
     alloc: Global,
     draw: &mut Draw,
     rows: &[(String, String)],
-) -> Result<(Vec<(String, String)>, Vec<String>), AllocError> {
-    let (mut linked, mut links) = (Vec::new(alloc), Vec::new(alloc));
+) -> Result<Vec<(String, String)>, AllocError> {
+    let mut linked = Vec::new(alloc);
     for (path, text) in rows {
         let mut now = String::from_str(alloc, text)?;
         if path.ends_with(".md") {
             let link = draw.path(alloc, rows)?;
             let target = target_to(alloc, path, &link)?;
             now = format!(in alloc; "[{}]({target})", draw.below(1000))?;
-            links.push(link)?;
         }
         linked.push((String::from_str(alloc, path)?, now))?;
     }
-    Ok((linked, links))
+    Ok(linked)
 }
 
 // A new path: that of another row, or a new name in a directory, which may be new too.
@@ -158,9 +156,9 @@ fn some_moves(
 
 fn some_trial(alloc: Global, draw: &mut Draw) -> Result<Trial, AllocError> {
     let rows = some_rows(alloc, draw)?;
-    let (rows, links) = with_links(alloc, draw, &rows)?;
+    let rows = with_links(alloc, draw, &rows)?;
     let moves = some_moves(alloc, draw, &rows)?;
-    Ok(Trial { rows, links, moves })
+    Ok(Trial { rows, moves })
 }
 
 // The texts of pairs.
@@ -195,7 +193,7 @@ fn is_planned_rightly(
     same(case, &true, &may)?;
     let mut files = Files::of(alloc, rows)?;
     files.run(alloc, &plan.actions)?;
-    let after = tree_after(alloc, &trial.rows, &trial.moves, &trial.links, &plan.pages)?;
+    let after = tree_after(alloc, &trial.rows, &trial.moves, &plan.pages)?;
     same(case, &files, &after)?;
     Ok(true)
 }

@@ -176,13 +176,9 @@ fn directories_to_which_links_lead(rt: HostRuntime) -> Result<(), Fail> {
         ],
         &[
             ("a.md", "[here](./d/e/)"),
-            ("d", "/"),
-            ("d/e", "/"),
             ("h", "1"),
             ("j", "2"),
             ("k.md", "[g](n/g/?x) [i](j)"),
-            ("n", "/"),
-            ("n/g", "/"),
         ],
     )
 }

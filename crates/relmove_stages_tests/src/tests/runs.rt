@@ -5,20 +5,21 @@ use crate::tests::example::{
 use crate::tests::trial::{Trial, carry_out_trial, finish_trial, turn_trial_back};
 use relmove_journal::{Stage, Work};
 use relmove_stages::Halt;
-use relmove_stages_disk::{Entry, Failing, Failure, Fault, MemoryDisk};
+use relmove_stages_disk::{Entry, Failing, Failure, Fault, Journal, MemoryDisk};
 use std::alloc::Global;
 use std::process::Abort;
 use std::test::Fail;
 
-fn trial(alloc: Global, places: &[Place], stage: Stage) -> Result<Trial, Fault> {
+fn trial(alloc: Global, work: &Work, places: &[Place], stage: Stage) -> Result<Trial, Fault> {
+    let journal = Journal::of(alloc, work, stage)?;
     Ok(Trial {
-        disk: MemoryDisk::new(alloc, entries(alloc, places)?, Some(stage)),
+        disk: MemoryDisk::new(alloc, entries(alloc, places)?, Some(journal)),
     })
 }
 
 // A run of which one call failed.
 fn stopped(alloc: Global, work: &Work, failure: Failure) -> Result<Trial, Fault> {
-    let mut trial = trial(alloc, WRITTEN, Stage::Staging)?;
+    let mut trial = trial(alloc, work, WRITTEN, Stage::Staging)?;
     trial.disk.fail(Some(failure));
     let _ = finish_trial(&mut trial, work, Stage::Staging);
     Ok(trial)
@@ -47,7 +48,7 @@ fn goes_on(rt: &impl Abort, alloc: Global, work: &Work, failure: Failure) -> Res
 #[test]
 fn carries_out(rt: HostRuntime) -> Result<(), Fail> {
     let work = work(rt.alloc())?;
-    let mut trial = trial(rt.alloc(), WRITTEN, Stage::Staging)?;
+    let mut trial = trial(rt.alloc(), &work, WRITTEN, Stage::Staging)?;
     finish_trial(&mut trial, &work, Stage::Staging)?;
     assert!(rt; has(&trial.disk, AFTER), "all actions are done");
     Ok(())
@@ -291,7 +292,7 @@ fn turns_back_after_each_call(rt: HostRuntime) -> Result<(), Fail> {
 #[test]
 fn takes_back_what_is_torn(rt: HostRuntime) -> Result<(), Fail> {
     let work = work(rt.alloc())?;
-    let mut trial = trial(rt.alloc(), TORN, Stage::Writing)?;
+    let mut trial = trial(rt.alloc(), &work, TORN, Stage::Writing)?;
     assert!(rt;
         turn_trial_back(&mut trial, &work, Stage::Writing)?,
         "nothing has moved"

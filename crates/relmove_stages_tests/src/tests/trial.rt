@@ -1,7 +1,14 @@
 //! An executor of which nothing is known, over a disk in memory. So a test needs no proof that its actions can be done.
+use relative_path::RelativePath;
+use relative_path_links::{Markdown, MovedSitePage};
+use relmove_actions::NewText;
+use relmove_checks::NameRule;
 use relmove_journal::{Stage, TextFile, Work};
+use relmove_plan::SiteTree;
+use relmove_planned::{MovesFault, PlanInitiator, carry_out_moves};
 use relmove_stages::{Action, Executor, Halt, Initiator, carry_out, finish, turn_back};
 use relmove_stages_disk::{Fault, MemoryDisk};
+use std::alloc::Global;
 
 /// A disk in memory of which nothing is known.
 #[derive(Drop)]
@@ -58,6 +65,17 @@ impl Initiator for Trial {
     }
 }
 
+impl PlanInitiator for Trial {
+    fn set_texts(&mut self, new_texts: Vec<NewText>) -> Result<(), Fault> {
+        let mut texts = Vec::new(*new_texts.allocator());
+        for new in new_texts {
+            texts.push(new.text.into_bytes())?;
+        }
+        self.disk.set_texts(texts);
+        Ok(())
+    }
+}
+
 /// Carries out a run.
 pub fn carry_out_trial(trial: &mut Trial, work: &Work) -> Result<(), Halt<Fault>> {
     carry_out(trial, work)
@@ -71,4 +89,14 @@ pub fn finish_trial(trial: &mut Trial, work: &Work, stage: Stage) -> Result<(), 
 /// Takes a run at a stage back, and returns `true`, or returns `false` if it is too late.
 pub fn turn_trial_back(trial: &mut Trial, work: &Work, stage: Stage) -> Result<bool, Fault> {
     turn_back(trial, work, stage)
+}
+
+/// Plans moves, and carries the plan out.
+pub fn carry_out_moves_in_trial(
+    trial: &mut Trial,
+    alloc: Global,
+    tree: SiteTree<'_>,
+    moves: &[(RelativePath<'_>, RelativePath<'_>)],
+) -> Result<Vec<MovedSitePage>, MovesFault<Fault>> {
+    carry_out_moves(trial, alloc, tree, moves, NameRule::Plain, &Markdown)
 }

@@ -1,8 +1,9 @@
-//! Calls whose standard output takes nothing, or fails at a flush.
-use relmove_cases::{MOVED_SITE, SITE, WRITE};
-use relmove_disk::{DiskMachine, Place, disk_of};
+//! Calls whose standard output takes nothing, or fails at a flush, and what `--help` prints.
+use crate::tests::cases::{MOVED_SITE, SITE, WRITE, answers};
+use crate::tests::comparison::{holds, same};
+use relmove_disk::{Disk, DiskMachine, Place, disk_of};
+use relmove_lib::report::{HELP, USAGE};
 use relmove_lib::{Status, answer};
-use relmove_run_cases::{holds, same};
 use std::alloc::Global;
 use std::io::{self, ErrorKind, Write};
 use std::test::Fail;
@@ -130,4 +131,13 @@ fn exits_with_the_statuses_of_the_help() -> Result<(), Fail> {
         same("an exit status", &status.code(), code)?;
     }
     Ok(())
+}
+
+#[test]
+fn prints_the_help_after_the_usage(rt: HostRuntime) -> Result<(), Fail> {
+    let disk = Disk::new(rt.alloc())?;
+    let help = format!(in rt.alloc(); "{USAGE}{HELP}")?;
+    let expected = (Status::Kept, help.as_str(), "");
+    answers(rt.alloc(), &disk, &["--help"], expected)?;
+    answers(rt.alloc(), &disk, &["--help", "--write"], expected)
 }

@@ -1,10 +1,10 @@
 //! What a long call prints of its progress, and a run that stopped.
-use relmove_cases::{MOVED_SITE, SITE, WRITE, add_symlink};
+use crate::tests::cases::{MOVED_SITE, SITE, WRITE, add_symlink};
+use crate::tests::comparison::{holds, same};
 use relmove_disk::{Content, Disk, DiskMachine, DiskStore, Place, disk_of};
 use relmove_lib::report::print_end;
 use relmove_lib::{Progress, Status, WithProgress, answer};
 use relmove_run::{Ended, Machine, Remark, RunFault, Stage, SystemCall};
-use relmove_run_cases::{holds, same};
 use std::alloc::{Alloc, AllocError, Global};
 use std::cell::Cell;
 use std::fmt::Display;

@@ -3,7 +3,8 @@ use Rattle.std.proofs.Common.{[], ◌∷◌, ◌++◌, ap, append_assoc, ◌∙�
 use Rattle.std.proofs.lemmas.List.{map_push}
 use Rattle.std.proofs.lemmas.List.Elements.{All-push}
 use Rattle.relative_path_links.specs.Edits.{IsGivenUp, targets_of}
-use Rattle.relative_path_links.specs.Rewriter.{Becomes, moving}
+use Rattle.relative_path_links.specs.Rewriter.{Becomes}
+use Rattle.relative_path_links.specs.SiteRoot.{page_moving}
 use Rattle.relative_path_links.specs.declared.edit.Edit.{Edit}
 use Rattle.relative_path_links.proofs.rewriter.rewrite_links.Goals as goal
 
@@ -24,7 +25,7 @@ loop-target-preserved c =
           ∙ (rw first at c.loop-target.invariant.targets);
       changes =
           rw c.in_ok-push.ensures.items
-          (All-push (Becomes (moving c.args.moves.now c.args.moved.now) c.args.page.now) edits edit
+          (All-push (Becomes (page_moving c.args.root.now c.args.moves.now c.args.moved.now) c.args.page.now) edits edit
           c.loop-target.invariant.changes c.in_ok-edit_of.ensures.becomes);
       new =
           rw c.in_ok-push.ensures.items

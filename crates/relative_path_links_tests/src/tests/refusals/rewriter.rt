@@ -4,7 +4,8 @@ use super::marks::{begin, end, end_answered};
 use crate::tests::{moves, same};
 use relative_path::RelativePath;
 use relative_path_links::{
-    Finder, Markdown, MovedSitePage, SitePage, edited, rewrite_links, rewrite_site, targets,
+    Finder, Markdown, MovedSitePage, SitePage, SiteRoot, edited, rewrite_links, rewrite_site,
+    targets,
 };
 use relative_path_moves::{PageMove, TreeMoves};
 use relative_path_places::NormalPath;
@@ -22,7 +23,7 @@ fn moved_in(
 ) -> Result<(), Fail> {
     let found = targets(alloc, page)?;
     begin(alloc);
-    let answer = rewrite_links(alloc, page, &found, tree, moved);
+    let answer = rewrite_links(alloc, page, &found, &SiteRoot::unknown(), tree, moved);
     let Ok(edits) = answer else {
         return end(alloc, true);
     };
@@ -111,7 +112,7 @@ fn edited_in(
     expected: &str,
 ) -> Result<(), Fail> {
     let found = targets(alloc, page)?;
-    let edits = rewrite_links(alloc, page, &found, tree, moved)?;
+    let edits = rewrite_links(alloc, page, &found, &SiteRoot::unknown(), tree, moved)?;
     begin(alloc);
     let answer = edited(alloc, page, &edits);
     end_with_text(alloc, answer, expected)
@@ -184,7 +185,7 @@ fn site_moved_in(
     let path = NormalPath::of(alloc, RelativePath::new("a.md"))?;
     let page = SitePage { path: &path, text };
     begin(alloc);
-    let answer = rewrite_site(alloc, &[page], tree, &Markdown);
+    let answer = rewrite_site(alloc, &[page], &SiteRoot::unknown(), tree, &Markdown);
     end_with_site(alloc, answer, expected)
 }
 
@@ -195,19 +196,19 @@ fn site_moved_down(alloc: Global, text: &str, expected: Option<&str>) -> Result<
     site_moved_in(alloc, &tree, text, expected)
 }
 
-// Requests: 80 9 96 648 64 96 96 24 7 1 88 4 4 1s 4 8 7 9 18 12 96 648 64 96 96 24 = 6
+// Requests: 80 9 128 648 64 96 96 24 7 1 88 4 4 1s 4 8 7 9 18 12 128 648 64 96 96 24 = 6
 #[test]
 fn a_site(rt: HostRuntime) -> Result<(), Fail> {
     site_moved_down(rt.alloc(), "[c](c.md)", Some("[c](../c.md)"))
 }
 
-// Requests: 80 7 96 648 64 96 96 24 7 1 88 2 = 3
+// Requests: 80 7 128 648 64 96 96 24 7 1 88 2 = 3
 #[test]
 fn a_site_whose_page_stays(rt: HostRuntime) -> Result<(), Fail> {
     site_moved_down(rt.alloc(), "[c](#c)", None)
 }
 
-// Requests: 80 9 96 648 64 96 96 24 7 1 88 1 1 1s 1 6 4 3 9 18 11 96 648 64 = 4
+// Requests: 80 9 128 648 64 96 96 24 7 1 88 1 1 1s 1 6 4 3 9 18 11 128 648 64 = 4
 #[test]
 fn a_site_whose_page_would_read_otherwise(rt: HostRuntime) -> Result<(), Fail> {
     site_moved_down(rt.alloc(), "[x](\n<x>)", None)
@@ -218,7 +219,7 @@ fn a_site_whose_page_would_read_otherwise(rt: HostRuntime) -> Result<(), Fail> {
 fn a_site_without_pages(rt: HostRuntime) -> Result<(), Fail> {
     let tree = TreeMoves::new(rt.alloc(), &[])?;
     begin(rt.alloc());
-    let answer = rewrite_site(rt.alloc(), &[], &tree, &Markdown);
+    let answer = rewrite_site(rt.alloc(), &[], &SiteRoot::unknown(), &tree, &Markdown);
     end(rt.alloc(), answer.is_err())
 }
 
@@ -234,7 +235,7 @@ fn finds(alloc: Global, page: &str, count: usize) -> Result<(), Fail> {
     }
 }
 
-// Requests: 21 96 648 64 96 96 48 = 1, 648 = 0
+// Requests: 21 128 648 64 96 96 48 = 1, 648 = 0
 #[test]
 fn links_of_a_page(rt: HostRuntime) -> Result<(), Fail> {
     finds(rt.alloc(), "[c](c.md) ![d](d.png)", 2)?;
@@ -253,7 +254,7 @@ fn finds_by_finder(alloc: Global, page: &str, count: usize) -> Result<(), Fail> 
     }
 }
 
-// Requests: 21 96 648 64 96 96 48 = 1, 648 = 0
+// Requests: 21 128 648 64 96 96 48 = 1, 648 = 0
 #[test]
 fn links_of_a_page_by_a_finder(rt: HostRuntime) -> Result<(), Fail> {
     finds_by_finder(rt.alloc(), "[c](c.md) ![d](d.png)", 2)?;

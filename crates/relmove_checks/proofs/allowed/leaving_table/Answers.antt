@@ -6,9 +6,9 @@ table_of-requires c = λ k l. ((rw c.deref.ensures.value at c.in_ok-check_paths.
 
 pub returns-clause-fine : goal.returns-clause-fine
 returns-clause-fine c = record {
-  paths = rw (c.deref.ensures.value, c.in_ok-moves.ensures) at c.in_ok-check_paths.ensures.fine;
-  apart = rw c.in_ok-moves.ensures at c.in_ok-table.ensures.apart;
+  paths = rw (c.deref.ensures.value, c.in_ok-moves.ensures.moves) at c.in_ok-check_paths.ensures.fine;
+  apart = rw c.in_ok-moves.ensures.moves at c.in_ok-table.ensures.apart;
   olds =
-      (rw (c.moves.ensures.moves, c.in_ok-table.ensures.table, c.in_ok-moves.ensures) at c.in_ok-check_olds.ensures.fine)
+      (rw (c.moves.ensures.moves, c.in_ok-table.ensures.table, c.in_ok-moves.ensures.moves) at c.in_ok-check_olds.ensures.fine)
       c.args.entries.now c.requires (rw c.deref-2.ensures.value c.in_ok-foreign.ensures.paths);
 }

@@ -15,6 +15,7 @@ use Rattle.relmove_plan.specs.WholeTrees.{IsWhole}
 use Rattle.relmove_plan.proofs.LeavingLemmas.{LeaveFromEntries-whole}
 use Rattle.relmove_plan.proofs.PlannedLemmas.{IsPlanned, AreAfter-only, known}
 use Rattle.relmove_plan.proofs.ActionPathsLemmas.{AreSpelled-run}
+use Rattle.relmove_plan.proofs.MadePathsLemmas.{made_paths}
 use Rattle.relmove_plan.proofs.RunsOnLemmas.{RunsOn-plan}
 use Rattle.relative_path.specs.Steps.{components}
 use Rattle.relmove_plan.proofs.plan.make_plan.Goals as goal
@@ -42,7 +43,7 @@ returns-clause-accepted g c =
 pub actions_of-requires-clause-long : goal.actions_of-requires-clause-long
 actions_of-requires-clause-long g c =
     rw c.deref.ensures.value
-    (AllZip-long (ForMovedPage (KeepsLinks (g.F.Finder.finds c.args.finder.now)) c.in_ok-table.table)
+    (AllZip-long (ForMovedPage (KeepsLinks (g.F.Finder.finds c.args.finder.now)) c.args.tree.root.now c.in_ok-table.table)
     c.args.tree.pages.now c.in_ok-pages.pages.items c.in_ok-pages.ensures.links)
 
 pub returns-clause-rewritten : goal.returns-clause-rewritten
@@ -87,7 +88,7 @@ leave_once g c whole =
 -- what is known of the plan for a whole tree
 planned : (g : _) (c : goal.After-drop-index-2 g) → IsWhole c.args.tree.entries.now (page_paths c.args.tree.pages.now)
     → IsPlanned c.args.tree.entries.now c.args.tree.pages.now c.in_ok-pages.pages.items (g.F.Finder.finds c.args.finder.now)
-    (moves_of c.args.moves.now) c.args.rule c.in_ok-actions.actions
+    c.args.tree.root.now (moves_of c.args.moves.now) c.args.rule c.in_ok-actions.actions
 planned g c whole = record {
   whole = whole;
   accepted = (rw c.in_ok-table.ensures.table at c.in_ok-after.ensures.fine) c.args.rule c.in_ok-table.ensures.fine;
@@ -128,11 +129,9 @@ left g c =
 
 -- all directories that are left behind may be emptied, and no others
 left_all : (g : _) (c : goal.After-drop-index-2 g)
-    → AreAllLeftBehind (moves_of c.args.moves.now) (moves_of c.args.moves.now) c.in_ok-pages.pages.items
+    → AreAllLeftBehind (moves_of c.args.moves.now) (moves_of c.args.moves.now)
     (map string_bytes c.in_ok-actions.actions.emptied.items)
-left_all g c =
-    (rw (c.deref.ensures.value, c.in_ok-table.ensures.table) at c.in_ok-actions.ensures.all)
-    ((rw c.in_ok-table.ensures.table at c.in_ok-after.ensures.fine) c.args.rule c.in_ok-table.ensures.fine).apart.come.leave.apart
+left_all g c = rw c.in_ok-table.ensures.table at c.in_ok-actions.ensures.all
 
 pub returns-clause-run : goal.returns-clause-run
 returns-clause-run g c = λ whole.
@@ -145,6 +144,11 @@ returns-clause-spelled g c = λ whole.
     AreSpelled-run (known (planned g c whole)) (map components (planned g c whole).accepted.apart.after)
     (map string_bytes c.in_ok-actions.actions.made.items) (map string_bytes c.in_ok-actions.actions.emptied.items)
     (makes g c whole) (left g c)
+
+pub returns-clause-made : goal.returns-clause-made
+returns-clause-made g c = λ whole.
+    made_paths (known (planned g c whole)) (map components (planned g c whole).accepted.apart.after)
+    (map string_bytes c.in_ok-actions.actions.made.items) (makes g c whole)
 
 pub returns-clause-only : goal.returns-clause-only
 returns-clause-only g c = record {

@@ -2,7 +2,7 @@
 use super::marks::{begin, end};
 use crate::tests::same;
 use relative_path::RelativePath;
-use relative_path_links::{Markdown, SitePage};
+use relative_path_links::{Markdown, SitePage, SiteRoot};
 use relative_path_places::NormalPath;
 use relmove_plan::{Entry, Kind, NameRule, Plan, Refusal, SiteTree, make_plan};
 use std::alloc::{AllocError, Global};
@@ -32,6 +32,7 @@ fn planned<'a>(alloc: Global, text: &str, new: &'a str) -> Result<Result<Plan<'a
     let tree = SiteTree {
         entries: &entries,
         pages: &pages,
+        root: &SiteRoot::unknown(),
     };
     let moves = [(RelativePath::new("d/b.md"), RelativePath::new(new))];
     begin(alloc);
@@ -40,9 +41,9 @@ fn planned<'a>(alloc: Global, text: &str, new: &'a str) -> Result<Result<Plan<'a
     Ok(answer)
 }
 
-// Requests: 4 488 1 6 80 2s 6 2s 6 6 488 6 488 72 4 1 7 4 488 1 6 80 11 96 648 64 96 96 1s 4 88 6 6 2s 6 7 7 6 11 11
-// 96 648 64 96 96 1s 1s 8 9 18 1s 10 4 488 6 6 10 192 10 192 4 1 9 18 1s 10 4 10 11 288 1 9 18 1s 10 10 10 96 1 9 18
-// 1s 10 4 10 10 144 80 6 1s 10 6 488 64 1 368 1s 1s 1 96 64 1 368 7 1s = 33
+// Requests: 4 488 1 6 80 2s 6 2s 6 6 488 6 488 72 4 1 7 4 488 1 6 80 11 128 648 64 96 96 1s 4 88 6 6 2s 6 7 7 6 11 11
+// 128 648 64 96 96 1s 1s 8 9 18 1s 10 4 488 6 6 10 192 10 192 4 1 9 18 1s 10 4 10 11 288 1 9 18 1s 10 10 10 96 1 9 18
+// 1s 10 4 10 10 144 80 6 1s 10 6 488 64 1 368 1s 1s 1 96 64 1 368 1s = 33
 #[test]
 fn a_plan_with_a_page_that_changes(rt: HostRuntime) -> Result<(), Fail> {
     match planned(rt.alloc(), "[b](d/b.md)", "e/b.md")? {

@@ -1,5 +1,5 @@
 use Rattle.std.proofs.Common.{◌≡◌, ◌+◌, inr, length, suc, Some, arith, refl, sym, ◌∙◌, subst}
-use Rattle.relmove_stages.specs.Runs.{CanWrite}
+use Rattle.relmove_stages.specs.Runs.{CanWrite, IsOnTheWayFrom}
 use Rattle.std.specs.List.{slice_get}
 use Rattle.std.proofs.lemmas.Option.{slice_get_read}
 use Rattle.relmove_journal.specs.declared.work.Stage.TheVariants.{Writing}
@@ -14,7 +14,7 @@ loop-number-init g c =
     record {
       texts = refl;
       guards = λ clean.
-          guards-none c.args.work.now g.trees (s.state c.args.executor.now)
+          guards-none (IsOnTheWayFrom c.args.work.now g.trees Writing) (s.state c.args.executor.now)
           (way-first c.args.work.now g.trees (s.state c.args.executor.now).disk (inr (c.requires.1.1.1.0 clean))
           (c.requires.1.1.1.1 clean));
       journal = c.requires.1.1.1.0;

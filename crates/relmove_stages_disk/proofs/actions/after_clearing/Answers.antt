@@ -1,4 +1,4 @@
-use Rattle.std.proofs.Common.{Err, IsSome, None, false, rules, subst, sym, ◌∙◌, ◌≡◌}
+use Rattle.std.proofs.Common.{Err, IsSome, None, false, rules, subst, sym, true, ◌∙◌, ◌≡◌}
 use Rattle.relative_path.specs.RelativePath.{path_text}
 use Rattle.relmove_trees.specs.FileTrees.{names_of, with_node}
 use Rattle.relmove_stages.specs.StageActions.{Clears}
@@ -42,8 +42,8 @@ pub returns : goal.returns
 returns c =
     let tree = entries_tree c.args.entries.now in
     let place = names_of (path_text c.new-path.result) in
-    let there : IsSome (entries_tree c.args.entries.now (names_of (path_text c.new-path.result))) = subst IsSome c.find_node.ensures
-    (c.is_nothing.ensures.something c.if-is_nothing.false) in
+    let directory : c.is_directory.result ≡ true = search rules in
     subst (λ text. Answers (Clears (names_of text)) (entries_tree c.args.entries.now) c.given_memory-2.result) c.new-path.ensures
     (changed (Clears place) tree (with_node place None tree) c.without.result c.given_memory-2.result c.given_memory-2.ensures
-    c.without.ensures (clear-done tree place (c.has_below.ensures.none c.if-has_below.false) there))
+    c.without.ensures (clear-done tree place (c.has_below.ensures.none c.if-has_below.false)
+    (sym c.find_node-2.ensures ∙ c.is_directory.ensures.yes directory)))

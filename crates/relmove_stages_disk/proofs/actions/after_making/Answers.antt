@@ -1,4 +1,4 @@
-use Rattle.std.proofs.Common.{Err, Some, false, rules, subst, sym, ◌∙◌, ◌≡◌}
+use Rattle.std.proofs.Common.{Err, Some, false, rules, subst, sym, true, ◌∙◌, ◌≡◌}
 use Rattle.relative_path.specs.RelativePath.{path_text}
 use Rattle.relmove_trees.specs.FileTrees.{Directory, names_of, with_node}
 use Rattle.relmove_stages.specs.StageActions.{Makes}
@@ -27,9 +27,10 @@ returns-then-not-can_take c =
 
 pub returns : goal.returns
 returns c =
+    let room : c.can_take.result ≡ true = search rules in
     let tree = entries_tree c.args.entries.now in
     let place = names_of (path_text c.new-path.result) in
     subst (λ text. Answers (Makes (names_of text)) (entries_tree c.args.entries.now) c.given_memory-2.result) c.new-path.ensures
     (changed (Makes place) tree (with_node place (Some Directory) tree)
     c.with_directory.result c.given_memory-2.result c.given_memory-2.ensures c.with_directory.ensures (make-done tree place
-    (λ is. c.is_directory.ensures.no c.if-is_directory.false (c.find_node.ensures ∙ is))))
+    (λ is. c.is_directory.ensures.no c.if-is_directory.false (c.find_node.ensures ∙ is)) (c.can_take.ensures.takes room)))

@@ -1,4 +1,4 @@
-use Rattle.std.proofs.Common.{Err, IsSome, None, false, rules, subst, sym, ◌∙◌, ◌≡◌}
+use Rattle.std.proofs.Common.{Err, IsSome, None, false, rules, subst, sym, true, ◌∙◌, ◌≡◌}
 use Rattle.relative_path.specs.RelativePath.{path_text}
 use Rattle.relmove_trees.specs.FileTrees.{names_of, with_node}
 use Rattle.relmove_stages.specs.StageActions.{Removes}
@@ -33,10 +33,12 @@ pub returns : goal.returns
 returns c =
     let tree = entries_tree c.args.entries.now in
     let place = names_of (path_text c.new-path.result) in
+    let has : c.has_text.result ≡ true = search rules in
+    let is = c.has_text.ensures.yes has in
     let there : IsSome (entries_tree c.args.entries.now (names_of (path_text c.new-path.result))) = subst IsSome c.find_node.ensures
     (c.is_nothing.ensures.something c.if-is_nothing.false) in
     subst (λ text. Answers (Removes (names_of text) c.args.digest.now) (entries_tree c.args.entries.now) c.given_memory-2.result)
     c.new-path.ensures
     (changed (Removes place c.args.digest.now) tree (with_node place None tree)
     c.without.result c.given_memory-2.result c.given_memory-2.ensures c.without.ensures
-    (remove-done tree place c.args.digest.now there))
+    (remove-done tree place c.args.digest.now there (is.0, sym c.find_node-2.ensures ∙ is.1, is.2)))

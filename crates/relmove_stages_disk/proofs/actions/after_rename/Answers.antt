@@ -1,9 +1,9 @@
-use Rattle.std.proofs.Common.{Err, IsSome, None, false, rules, subst, sym, true, ◌∙◌, ◌≡◌}
+use Rattle.std.proofs.Common.{Err, IsSome, None, false, rules, subst, sym, true, true≢false, ◌∙◌, ◌≡◌}
 use Rattle.relative_path.specs.RelativePath.{path_text}
 use Rattle.relmove_trees.specs.FileTrees.{HasNothing, after_rename, names_of}
 use Rattle.relmove_stages.specs.StageActions.{Takes}
 use Rattle.relmove_stages_disk.proofs.ActingLemmas.{at_paths, changed, changed-if, rename-done, rename-gone, rename-no_room, rename-nothing, rename-under}
-use Rattle.relmove_stages_disk.proofs.PathsLemmas.{starts-under}
+use Rattle.relmove_stages_disk.proofs.PathsLemmas.{not_under, starts-under}
 use Rattle.relmove_stages_disk.specs.Entries.{entries_tree}
 use Rattle.relmove_stages_disk.specs.declared.fault.Fault.TheVariants.{Refused}
 use Rattle.relmove_stages_disk.proofs.actions.after_rename.Goals as goal
@@ -32,7 +32,8 @@ returns-then-is_nothing c =
     c.given_memory.result
     c.new-from.ensures c.new-to.ensures
     (changed (Takes from to) tree tree c.copies_of.result c.given_memory.result c.given_memory.ensures c.copies_of.ensures
-    (rename-gone tree from to gone))
+    (rename-gone tree from to gone (subst IsSome c.find_node-then-is_nothing.ensures
+    (c.is_nothing-then-is_nothing.ensures.something c.if-is_nothing-2.false))))
 
 pub returns-then-starts_with : goal.returns-then-starts_with
 returns-then-starts_with c =
@@ -73,4 +74,5 @@ returns c =
     c.new-from.ensures c.new-to.ensures
     (changed-if (HasNothing tree to) (Takes from to) tree (after_rename (from, to) tree)
     c.renamed.result c.given_memory-2.result c.given_memory-2.ensures (c.can_take.ensures.takes room).free c.renamed.ensures
-    (rename-done tree from to there))
+    (rename-done tree from to there (c.can_take.ensures.takes room) (not_under (path_text c.new-to.result) (path_text c.new-from.result)
+    (λ starts. true≢false (sym (c.starts_with.ensures.1 starts) ∙ c.if-starts_with.false)))))

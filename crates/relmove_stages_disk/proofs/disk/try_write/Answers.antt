@@ -1,4 +1,6 @@
-use Rattle.std.proofs.Common.{IsTrue, Some, arith, false, refl, rules, subst, sym, true≢false, ◌≡◌, ◌∙◌}
+use Rattle.std.proofs.Common.{IsTrue, Some, arith, false, refl, rules, subst, sym, true, true≢false, ◌≡◌, ◌∙◌}
+use Rattle.relative_path.specs.RelativePath.{path_text}
+use Rattle.relmove_trees.specs.FileTrees.{CanTake, names_of}
 use Rattle.std.specs.List.{slice_get}
 use Rattle.relmove_stages.specs.StageActions.{IsText}
 use Rattle.relmove_stages_disk.proofs.DisksLemmas.{has_written, no_text, other_text, text_at, writes-none}
@@ -44,9 +46,14 @@ returns-then-not-is_text-clause-written c =
 pub returns-clause-written : goal.returns-clause-written
 returns-clause-written c =
     let yes : IsTrue c.is_text.result = search rules in
+    let room : c.can_take.result ≡ true = search rules in
+    let takes =
+    subst (λ path. CanTake (entries_tree c.args.now.now.entries.items) (names_of path)) (c.new.ensures ∙ c.as_str.ensures.value)
+    (subst (λ entries. CanTake (entries_tree entries) (names_of (path_text c.new.result))) c.deref.ensures.value
+    (c.can_take.ensures.takes room)) in
     has_written (bytes_of c.args.texts.now) c.args.number c.args.text.now c.as_slice-bytes.result.now
     (entries_tree c.args.now.now.entries.items) (entries_tree c.write_bytes.new.now.entries.items) c.write_bytes.result
-    (subst (λ bytes. slice_get (bytes_of c.args.texts.now) c.args.number ≡ Some bytes) (sym c.as_slice-bytes.ensures.value)
+    takes (subst (λ bytes. slice_get (bytes_of c.args.texts.now) c.args.number ≡ Some bytes) (sym c.as_slice-bytes.ensures.value)
     (text_at c.args.texts.now c.args.number c.index-texts-number.result (omega (arith, c.if-number-texts.false))
     c.index-texts-number.is))
     (c.is_text.ensures.0 yes) c.write_bytes.ensures.written c.write_bytes.ensures.outcome c.write_bytes.ensures.not_refused

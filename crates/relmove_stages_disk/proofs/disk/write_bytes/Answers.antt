@@ -4,6 +4,7 @@ use Rattle.relmove_stages.specs.StageActions.{place_of}
 use Rattle.relmove_stages_disk.proofs.DisksLemmas.{writes-none, writes-on}
 use Rattle.relmove_stages_disk.specs.Entries.{entries_tree}
 use Rattle.relmove_stages_disk.specs.declared.moment.Moment.{Moment}
+use Rattle.relmove_stages_disk.specs.Journals.{said}
 use Rattle.relmove_stages_disk.proofs.disk.write_bytes.Goals as goal
 
 pub returns-in_default-clause-moments : goal.returns-in_default-clause-moments
@@ -12,6 +13,14 @@ returns-in_default-clause-moments c =
 
 pub returns-in_default-with_file-clause-moments : goal.returns-in_default-with_file-clause-moments
 returns-in_default-with_file-clause-moments c =
+    writes-none c.args.text.now c.args.now.now c.args.now.now c.args.past.now.items c.args.past.now.items refl refl
+
+pub returns-in_default-copy_journal-clause-moments : goal.returns-in_default-copy_journal-clause-moments
+returns-in_default-copy_journal-clause-moments c =
+    writes-none c.args.text.now c.args.now.now c.args.now.now c.args.past.now.items c.args.past.now.items refl refl
+
+pub returns-in_default-copy_journal-2-clause-moments : goal.returns-in_default-copy_journal-2-clause-moments
+returns-in_default-copy_journal-2-clause-moments c =
     writes-none c.args.text.now c.args.now.now c.args.now.now c.args.past.now.items c.args.past.now.items refl refl
 
 pub returns-then-not-put-clause-moments : goal.returns-then-not-put-clause-moments
@@ -32,7 +41,8 @@ returns-then-fails_midway-clause-moments c =
     (entries_tree entries)) c.deref.ensures.value in
     writes-on c.args.text.now c.args.bytes.now (length c.args.bytes.now / 2) c.args.now.now
     c.put.new.now c.put.new.now c.args.past.now.items
-    c.put.new.past.items c.put.new.past.items c.requires.whole (ap (λ (m : Moment). m.journal) (c.put.ensures.next yes)) acts
+    c.put.new.past.items c.put.new.past.items c.requires.takes c.requires.whole
+    (ap (λ (m : Moment). said m.journal) (c.put.ensures.next yes) ∙ c.in-Ok-copy_journal.ensures) acts
     (c.put.ensures.past yes) (inl (refl, refl))
 
 pub returns-then-not-put-2-clause-moments : goal.returns-then-not-put-2-clause-moments
@@ -48,7 +58,8 @@ returns-then-not-put-2-clause-moments c =
     let no : c.put-2.result ≡ false = search rules in
     writes-on c.args.text.now c.args.bytes.now (length c.args.bytes.now / 2) c.args.now.now
     c.put.new.now c.put-2.new.now c.args.past.now.items
-    c.put.new.past.items c.put-2.new.past.items c.requires.whole (ap (λ (m : Moment). m.journal) (c.put.ensures.next yes)) acts
+    c.put.new.past.items c.put-2.new.past.items c.requires.takes c.requires.whole
+    (ap (λ (m : Moment). said m.journal) (c.put.ensures.next yes) ∙ c.in-Ok-copy_journal.ensures) acts
     (c.put.ensures.past yes) (inl (c.put-2.ensures.stays no, c.put-2.ensures.past_stays no))
 
 pub returns-clause-moments : goal.returns-clause-moments
@@ -64,5 +75,6 @@ returns-clause-moments c =
     let yes_2 : IsTrue c.put-2.result = search rules in
     writes-on c.args.text.now c.args.bytes.now (length c.args.bytes.now / 2) c.args.now.now
     c.put.new.now c.put-2.new.now c.args.past.now.items
-    c.put.new.past.items c.put-2.new.past.items c.requires.whole (ap (λ (m : Moment). m.journal) (c.put.ensures.next yes)) acts
+    c.put.new.past.items c.put-2.new.past.items c.requires.takes c.requires.whole
+    (ap (λ (m : Moment). said m.journal) (c.put.ensures.next yes) ∙ c.in-Ok-copy_journal.ensures) acts
     (c.put.ensures.past yes) (inr (c.put-2.ensures.past yes_2))

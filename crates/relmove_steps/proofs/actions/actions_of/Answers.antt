@@ -93,6 +93,9 @@ returns-clause-names c = λ paths has.
 pub returns-clause-left : goal.returns-clause-left
 returns-clause-left c = rw c.moves-moves.ensures.moves at c.in_ok-directories_emptied.ensures.left
 
+pub returns-clause-all : goal.returns-clause-all
+returns-clause-all c = rw c.moves-moves.ensures.moves at c.in_ok-directories_emptied.ensures.all
+
 pub returns-clause-only : goal.returns-clause-only
 returns-clause-only c =
     let renames = c.in_ok-renames.renames in

@@ -56,7 +56,7 @@ loop-directory-preserved c =
           (subst (IsLeftAt tree now) c.directory-item.is (record {
             text = text;
             now = subst (λ text. AtTreePath tree (view_components directory) (λ target. IsNormalTextOf target text)) (sym same) at;
-            has = λ any. Contains-insert_key text_cmp string_bytes text_ties keys key;
+            has = Contains-insert_key text_cmp string_bytes text_ties keys key;
           })));
     }
 

@@ -1,6 +1,5 @@
 -- Each move adds the directories above its old path. Those that are left are turned round.
 use Rattle.std.proofs.Common.{◌<◌, Global, List, ap, arith, length, map, string_bytes, subst}
-use Rattle.std.specs.Prelude.{⊤}
 use Rattle.std.proofs.lemmas.Result.{IfOk-weaker}
 use Rattle.relative_path.specs.Steps.{Step}
 use Rattle.relative_path_moves.specs.Moves.{move_at, written_moves}
@@ -21,7 +20,7 @@ loop-a-preserved c =
       left = c.in_ok-add_left.ensures.left moves k (rw (length-written c.args.moves.now) c.loop-a-test.true) here
           c.loop-a.invariant.left;
       all = below_more (λ j. (directory : List Step) → IsDirectoryAbove (move_at moves j).old directory
-          → HasLeftBehind c.args.table.now now (λ text. ⊤) directory) k
+          → HasLeftBehind c.args.table.now now directory) k
           (λ j l directory above.
           HasLeftBehind-more c.args.table.now before now directory c.in_ok-add_left.ensures.kept
           (c.loop-a.invariant.all j l directory above))
@@ -34,20 +33,16 @@ returns-clause-left c =
     let moves = written_moves c.args.moves.now in
     IfOk-weaker c.from_last.result _ _
     (λ texts is. rw is (All-reverse (λ text. IsLeftBehindByMove c.args.table.now moves (string_bytes text))
-    c.remove_all_linked.new.left.keys
-    (c.in_ok-remove_all_linked.ensures.left moves c.loop-a.invariant.left))) c.from_last.ensures.reversed
+    c.loop-a.left.keys c.loop-a.invariant.left)) c.from_last.ensures.reversed
 
 pub returns-clause-all : goal.returns-clause-all
 returns-clause-all c =
     let table = c.args.table.now in
     let moves = written_moves c.args.moves.now in
-    let first = c.loop-a.left.keys in
-    let keys = c.remove_all_linked.new.left.keys in
     let last = c.loop-a-test.false in
     IfOk-weaker c.from_last.result _ _
-    (λ texts is. λ apart. rw is
-    (AreAllLeftBehind-reverse table moves c.args.news.now first keys
+    (λ texts is. rw is
+    (AreAllLeftBehind-reverse table moves c.loop-a.left.keys
     (λ k l directory above.
     let within : k < length c.args.moves.now = rw length-written at l in
-    c.loop-a.invariant.all k (omega (arith, within, last)) directory above)
-    (c.in_ok-remove_all_linked.ensures.without apart))) c.from_last.ensures.reversed
+    c.loop-a.invariant.all k (omega (arith, within, last)) directory above))) c.from_last.ensures.reversed

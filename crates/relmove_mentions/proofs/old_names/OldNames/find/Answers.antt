@@ -24,5 +24,5 @@ returns c =
     ) refl in
     IfOk-weaker c.find_text-2.result _ _
     (λ found is olds has.
-    Finds-second olds (StandsFor c.args.file bytes) (StandsFor c.args.file (percent_decode bytes)) found
+    Finds-second olds (StandsFor olds c.args.file bytes) (StandsFor olds c.args.file (percent_decode bytes)) found
     (rw c.in_default.is at (c.in_ok-old.ensures olds has)) (rw is_text at (is olds has))) c.find_text-2.ensures

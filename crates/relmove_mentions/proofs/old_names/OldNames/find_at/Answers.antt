@@ -22,7 +22,7 @@ returns c =
     let bytes = span_bytes text c.args.span in
     IfOk-weaker c.find.result _ _
     (λ found finds olds has.
-    Finds-map olds (IsWritten c.args.file bytes) (IsMention olds c.args.file c.args.span) found
+    Finds-map olds (IsWritten olds c.args.file bytes) (IsMention olds c.args.file c.args.span) found
     (λ old is_old written. record {
       is_old = is_old;
       bounded = record {

@@ -7,11 +7,11 @@ use Rattle.relmove_mentions.proofs.OldNamesLemmas.{LeadsFrom-nil, LeadsFrom-next
 use Rattle.relmove_mentions.proofs.old_names.OldNames.find_from.Goals as goal
 
 pub loop-directory-init : goal.loop-directory-init
-loop-directory-init c = λ olds has old is_old. LeadsFrom-nil (path_components c.args.path) old
+loop-directory-init c = λ olds has old is_old. LeadsFrom-nil olds (path_components c.args.path) old
 
 pub loop-directory-preserved : goal.loop-directory-preserved
 loop-directory-preserved c = λ olds has old is_old from.
-    elim (LeadsFrom-next c.args.directories.now c.loop-directory.directory-index _ (path_components c.args.path) old
+    elim (LeadsFrom-next olds c.args.directories.now c.loop-directory.directory-index _ (path_components c.args.path) old
     c.loop-directory-test.true from) [
       | inl before ↦ c.loop-directory.invariant olds has old is_old before
       | inr leads ↦ (rw c.in_default.is at (c.in_ok-old.ensures olds has)) old is_old leads
@@ -21,12 +21,12 @@ pub returns-in-Some : goal.returns-in-Some
 returns-in-Some c = λ olds has.
     let (is_old, leads) = rw c.in-Some.is at (c.in_ok-old.ensures olds has) in (
       is_old,
-      LeadsFrom-one c.args.directories.now c.loop-directory.directory-index _ (path_components c.args.path) _
+      LeadsFrom-one olds c.args.directories.now c.loop-directory.directory-index _ (path_components c.args.path) _
           c.loop-directory-test.true leads,
     )
 
 pub returns : goal.returns
 returns c = λ olds has old is_old from.
     c.loop-directory.invariant olds has old is_old
-    (subst (λ list. LeadsFrom (map path_components list) (path_components c.args.path) old)
+    (subst (λ list. LeadsFrom olds (map path_components list) (path_components c.args.path) old)
     (sym (take_all c.loop-directory.directory-index c.args.directories.now c.loop-directory-test.false)) from)

@@ -8,4 +8,4 @@ use Rattle.relmove_mentions.proofs.old_names.OldNames.find_from.Given as goal
 
 abbrev pub invariant-loop-directory : goal.invariant-loop-directory
 invariant-loop-directory l = (olds : List (List ℕ)) → Has olds l.self → (old : List ℕ) → Contains olds old
-    → ¬ LeadsFrom (map path_components (take l.directory-index l.directories)) (path_components l.path) old
+    → ¬ LeadsFrom olds (map path_components (take l.directory-index l.directories)) (path_components l.path) old

@@ -13,6 +13,6 @@ returns c =
     let below : IsTrue (not (has_root text)) = ap not (sym c.has_root.ensures ∙ c.if-has_root.false) in
     IfOk-weaker c.find_from.result _ _
     (λ found finds olds has.
-    Finds-map olds (LeadsFrom (map path_components c.args.file.directories.now) (path_components c.args.path))
-    (LeadsFromDirectory c.args.file text) found (λ old is_old leads. (below, leads)) (λ old leads. leads.1) (finds olds has))
+    Finds-map olds (LeadsFrom olds (map path_components c.args.file.directories.now) (path_components c.args.path))
+    (LeadsFromDirectory olds c.args.file text) found (λ old is_old leads. (below, leads)) (λ old leads. leads.1) (finds olds has))
     c.find_from.ensures

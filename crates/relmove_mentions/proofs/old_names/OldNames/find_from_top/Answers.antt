@@ -12,6 +12,6 @@ returns c =
     let some : IsTrue (has_directory text) = sym c.has_directory.ensures ∙ c.if-not-has_directory.false in
     IfOk-weaker c.find_from.result _ _
     (λ found finds olds has.
-    Finds-map olds (LeadsFrom (map path_components c.args.file.tops.now) (path_components c.args.path))
-    (LeadsFromTop c.args.file text) found (λ old is_old leads. (some, leads)) (λ old leads. leads.1) (finds olds has))
+    Finds-map olds (LeadsFrom olds (map path_components c.args.file.tops.now) (path_components c.args.path))
+    (LeadsFromTop olds c.args.file text) found (λ old is_old leads. (some, leads)) (λ old leads. leads.1) (finds olds has))
     c.find_from.ensures

@@ -23,8 +23,8 @@ returns c =
     let named : IsSome (file_name_of (path_text c.new-path.result)) = subst IsSome c.in-Some.ensures.text refl in
     IfOk-weaker c.find_from_top.result _ _
     (λ found is olds has.
-    let none : Finds olds (LeadsFromDirectory file (path_text c.new-path.result)) None =
+    let none : Finds olds (LeadsFromDirectory olds file (path_text c.new-path.result)) None =
     rw c.in_default-2.is at (c.in_ok-old.ensures olds has) in
     Finds-text olds file text found c.in-Ok.ensures.cases.1 (rw is_text at named)
-    (Finds-second olds (LeadsFromDirectory file text) (LeadsFromTop file text) found (rw is_text at none)
+    (Finds-second olds (LeadsFromDirectory olds file text) (LeadsFromTop olds file text) found (rw is_text at none)
     (rw is_text at (is olds has)))) c.find_from_top.ensures

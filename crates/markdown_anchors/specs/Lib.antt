@@ -1,0 +1,3 @@
+pub mod Names
+pub mod Slugs
+pub mod Taken

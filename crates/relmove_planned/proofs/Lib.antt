@@ -1,0 +1,5 @@
+mod OutcomeLemmas
+mod PageTextsLemmas
+pub mod LabelledLemmas
+pub mod ForCallers
+mod WorkLemmas

@@ -1,0 +1,9 @@
+pub mod SeenTreesLemmas
+pub mod SeenRunsLemmas
+pub mod StagedLemmas
+pub mod KeepingLemmas
+pub mod CleaningLemmas
+pub mod FitsLemmas
+pub mod PathsLemmas
+pub mod WorksLemmas
+pub mod MakingLemmas

@@ -1,0 +1,4 @@
+pub mod StagingPaths
+pub mod Works
+pub mod Pages
+pub mod Leading
