@@ -16,6 +16,7 @@ pub use self::allowed::{coming_index, leaving_table};
 pub use self::entry::{Entry, Kind};
 pub use self::name_rule::NameRule;
 pub use self::refusal::Refusal;
+pub use self::refused::has_reserved_name;
 
 mod above;
 mod after;

@@ -168,9 +168,15 @@ fn may_be_named(path: RelativePath<'_>, rule: NameRule) -> bool
     }
 }
 
-// Returns whether a path has a name that begins as those of a run's own files.
-fn has_reserved_name(path: RelativePath<'_>) -> bool
-    ensures { result ≡ list_any is_reserved_step (path_components path.entry) }
+/// Returns whether a path has a name that begins as those of a run's own files: with `.relmove`. Allocates nothing.
+///
+/// ```
+/// assert!(rt; has_reserved_name(RelativePath::new("docs/.relmove-1")));
+/// assert!(rt; !has_reserved_name(RelativePath::new("docs/relmove")));
+/// ```
+pub fn has_reserved_name(path: RelativePath<'_>) -> bool
+    // whether a component is such a name
+    ensures reserved { result ≡ list_any is_reserved_step (path_components path.entry) }
 {
     for component in path.components() {
         if is_reserved_step(component) {
