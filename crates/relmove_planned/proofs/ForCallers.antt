@@ -1,6 +1,6 @@
 -- Theorems that proofs of other crates may cite: the work of a plan's actions can be carried out, and leads to the tree after the
 -- moves.
-use Rattle.std.proofs.Common.{◌≡◌, ℕ, List, [], ◌∷◌, ◌++◌, Some, map, sym, ap, subst, ◌∙◌}
+use Rattle.std.proofs.Common.{All, ◌≡◌, ◌<◌, ℕ, List, [], ◌∷◌, ◌++◌, Some, map, sym, ap, subst, ◌∙◌, arith}
 use Rattle.std.proofs.lemmas.Simd.{map-map}
 use Rattle.std.proofs.lemmas.Slice.Zip.{AllZip-long}
 use Rattle.relative_path.specs.Steps.{components, step_text}
@@ -9,7 +9,8 @@ use Rattle.relative_path_links.specs.declared.site.MovedSitePage.{MovedSitePage}
 use Rattle.relative_path_links.specs.declared.site.SitePage.{SitePage}
 use Rattle.relative_path_moves.specs.Moves.{Move}
 use Rattle.relative_path_places.specs.Places.{directory}
-use Rattle.relmove_checks.specs.Moves.{EachMove}
+use Rattle.relmove_checks.specs.Moves.{EachMove, HasNoReservedName}
+use Rattle.relmove_checks.specs.Plan.{AreAllowed}
 use Rattle.relmove_checks.specs.declared.entry.Entry.{Entry}
 use Rattle.relmove_checks.specs.declared.name_rule.NameRule.{NameRule}
 use Rattle.relmove_journal.specs.Shape.{IsOfRun}
@@ -17,10 +18,10 @@ use Rattle.relmove_journal.specs.declared.work.Work.{Work}
 use Rattle.relmove_plan.proofs.ForCallers.{AgreesWith-some, HasTexts-some}
 use Rattle.relmove_plan.proofs.PlacesLemmas.{names_of-normal}
 use Rattle.relmove_plan.specs.KnownTrees.{AgreesWith, HasTexts, IsAfterMoves, tree_actions}
-use Rattle.relmove_plan.specs.WholeTrees.{LeadsToFile}
+use Rattle.relmove_plan.specs.WholeTrees.{IsWhole, LeadsToFile}
 use Rattle.relmove_steps.specs.Actions.{ActionTexts, DoesMove, ReplacesChanged, staged_names}
 use Rattle.relmove_steps.specs.NewFiles.{IsNextTo}
-use Rattle.relmove_steps.specs.Pages.{changed_paths}
+use Rattle.relmove_steps.specs.Pages.{changed_paths, page_paths}
 use Rattle.relmove_steps.specs.StagingNames.{numbered_name}
 use Rattle.relmove_trees.specs.FileTrees.{File, Place, Tree, names_of}
 use Rattle.relmove_trees.specs.TreeActions.{Action, LeadTo, Rename, Write}
@@ -28,9 +29,10 @@ use Rattle.relmove_work.specs.Leading.{LeadsThere}
 use Rattle.relmove_work.specs.Works.{IsWorkOf, LacksOldText}
 use Rattle.relmove_work.proofs.StagedLemmas.{Step}
 use Rattle.relmove_work.proofs.WorksLemmas.{IsTreeFor, at-contains, at-map, contains-at, step_of, work-leads}
+use Rattle.relmove_planned.proofs.KnownTreesLemmas.{is-known, with_run}
 use Rattle.relmove_planned.proofs.LabelledLemmas as labels
 use Rattle.relmove_planned.proofs.LabelledLemmas.{all-at, at-get}
-use Rattle.relmove_planned.specs.Plans.{ArePageTexts, HasPlannedRun, HasRun, HasRunDirectory, HaveNoReservedNames, HaveTexts, IsAfterEach, IsKnownTree, IsMovedTree, IsPlanOf, IsPlannedWork, PlannedRun, StartsAt, run_for, texts_of_plan}
+use Rattle.relmove_planned.specs.Plans.{ArePageTexts, HasPlannedRun, HasRun, HasRunDirectory, HaveNoReservedNames, HaveTexts, IsAfterEach, IsKnownTree, IsMovedTree, IsPlanOf, IsPlannedWork, PlannedRun, StartsAt, no_actions, run_for, texts_of_plan}
 
 module _ (entries : List Entry) (pages : List SitePage) (news : List MovedSitePage) (moves : List Move) (rule : NameRule)
     (actions : ActionTexts) (made emptied : List (List ℕ)) (of : IsPlanOf entries pages news moves rule actions made emptied)
@@ -160,3 +162,27 @@ moves-lead entries pages news moves rule work texts tree has is =
       (run, now, starts),
       λ end each. record { now = now; texts = starts.is_tree.texts; after = each run now starts },
     )
+
+-- For whole entries without names of a run's own, and moves that pass each check, there is such a tree: so the calls say something.
+pub IsKnownTree-some : (entries : List Entry) (pages : List SitePage) (moves : List Move) (rule : NameRule)
+    → IsWhole entries (page_paths pages) → AreAllowed entries moves rule
+    → All (λ entry. HasNoReservedName (components entry.path)) entries → (tree : Tree) × IsKnownTree entries pages moves tree
+IsKnownTree-some entries pages moves rule whole accepted plain =
+    let (tree, agrees) =
+    AgreesWith-some entries pages [] moves no_actions whole
+    record {
+      numbered = λ k name within. none k within;
+      different = λ j k name less within. none k within;
+      unused = λ k name within. none k within;
+    }
+    record {
+      of_pages = λ k new within. none k within;
+      next_to = λ k new within. none k within;
+      unused = λ k new within. none k within;
+      different = λ j k new less within. none k within;
+      no_name = λ k new within. none k within;
+    } in
+    (with_run tree, is-known entries pages moves rule whole accepted plain tree agrees)
+  where
+    none : (k : ℕ) → k < 0 → {P : Type 0} → P
+    none k within {P} = absurd (omega (arith, within))

@@ -74,7 +74,7 @@ pairs-at R xs each i j x y less at at_2 =
     let (within_2, is_2) = at-get xs j y at_2 in
     subst (R x) (is_2 x) (subst (λ z. R z (get_or xs j x)) (is x) (each i j x less within_2))
 
-All-from_at : {X : Type 0} (P : X → Type 0) (xs : List X) → ((i : ℕ) (x : X) → slice_get xs i ≡ Some x → P x) → All P xs
+pub All-from_at : {X : Type 0} (P : X → Type 0) (xs : List X) → ((i : ℕ) (x : X) → slice_get xs i ≡ Some x → P x) → All P xs
 All-from_at {X = X} P xs each k d within = by xs k within each
   where
     by : (xs : List X) (k : ℕ) → k < length xs → ((i : ℕ) (x : X) → slice_get xs i ≡ Some x → P x) → P (get_or xs k d)
@@ -128,7 +128,7 @@ digits : (ds : List ℕ) → AllByRecursion (λ d. d < 10) ds → list_all is_as
 digits [] below = refl
 digits (d ∷ ds) below = rw ((digit d below.0)) (digits ds below.1)
 
-numeral-number : (n : ℕ) → is_number (numeral n) ≡ true
+pub numeral-number : (n : ℕ) → is_number (numeral n) ≡ true
 numeral-number zero = refl
 numeral-number (suc n) =
     let step = digits_of_step 10 (suc n) (omega arith) (omega arith) in
@@ -150,7 +150,7 @@ foreign-take zero place fine = tt
 foreign-take (suc k) [] fine = tt
 foreign-take (suc k) (n ∷ place) fine = (fine.0, foreign-take k place fine.1)
 
-walk-foreign : (cs : List Step) (base place : Place) → list_any is_reserved_step cs ≡ false → AreForeign base
+pub walk-foreign : (cs : List Step) (base place : Place) → list_any is_reserved_step cs ≡ false → AreForeign base
     → walk base cs ≡ Some place → AreForeign place
 walk-foreign [] base place none fine leads = let same : base ≡ place = cc leads in subst AreForeign same fine
 walk-foreign (cur ∷ cs) base place none fine leads = walk-foreign cs base place none fine leads

@@ -1,6 +1,6 @@
 //! What begins a run of a plan.
-ghost use Rattle.std.specs.Prelude.{◌≡◌, IsTrue, OnOk, map, string_bytes};
-ghost use Rattle.relmove_stages.specs.States.{Disk};
+ghost use Rattle.std.specs.Prelude.{◌≡◌, ◌<◌, IsTrue, OnErr, OnOk, map, string_bytes};
+ghost use Rattle.relmove_stages.specs.States.{IsOneCall};
 
 use relmove_actions::NewText;
 use relmove_stages::Initiator;
@@ -14,8 +14,9 @@ pub trait PlanInitiator: Initiator {
             → Self.texts self.new ≡ map (λ new. string_bytes new.text) new_texts.items) }
         // the tree and the journal stay
         ensures same { IsTrue (Self.state self.new).is_clean → (Self.state self.new).disk ≡ (Self.state self.old).disk }
-        // it isn't clean if it wasn't
-        ensures clean { IsTrue (Self.state self.new).is_clean → IsTrue (Self.state self.old).is_clean }
-        // a crash leaves what it might have left before
-        ensures crash { (c : Disk) → (Self.state self.new).may_leave c → (Self.state self.old).may_leave c };
+        // what a crash leaves
+        ensures crash { IsOneCall (Self.state self.old) (Self.state self.new) }
+        // it fails only if a call failed
+        ensures cause { OnErr result (IsTrue (Self.state self.new).is_clean
+            → (Self.state self.old).faults < (Self.state self.new).faults) };
 }

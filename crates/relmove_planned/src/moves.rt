@@ -1,9 +1,14 @@
 //! Moves, from their paths to the files.
-ghost use Rattle.std.specs.Prelude.{◌≡◌, None, IfOk, IsTrue, OnErr};
-ghost use Rattle.relative_path_links.specs.Site.{KeepTheirLinks};
+ghost use Rattle.std.specs.Prelude.{◌≡◌, ◌⊎◌, ℕ, None, Some, IfErr, IfOk, IsErrOf, IsTrue};
+ghost use Rattle.std.specs.List.{position};
+ghost use Rattle.relative_path_links.specs.Site.{AreRewritten, KeepTheirLinks};
 ghost use Rattle.relative_path_moves.specs.Moves.{moves_of};
 ghost use Rattle.relmove_plan.specs.WholeTrees.{IsWhole};
-ghost use Rattle.relmove_planned.specs.Plans.{IsKnownTree, IsMovedTree, IsOnTheirWay};
+ghost use Rattle.relmove_planned.specs.Faults.{IsAfterFault, IsCause};
+ghost use Rattle.relmove_planned.specs.Plans.{IsKnownTree, IsMovedTree, IsOnTheirWay, has_reserved_name};
+ghost use Rattle.relmove_planned.specs.declared.moves.MovesFault.TheVariants.{Refused};
+ghost use Rattle.relmove_planned.specs.declared.refusal.WorkRefusal.TheVariants.{ReservedName};
+ghost use Rattle.relmove_stages.specs.Runs.{Guards};
 ghost use Rattle.relmove_stages.specs.States.{Disk};
 ghost use Rattle.relmove_steps.specs.Pages.{page_paths};
 
@@ -54,11 +59,28 @@ pub fn carry_out_moves<F: Finder, E: PlanInitiator>(
     // and so it is after a loss of power
     ensures lasts { IfOk result (λ pages. IsTrue (E.state executor.new).is_clean → (c : Disk) → (E.state executor.new).may_leave c
         → IsMovedTree tree.entry.pages.now pages.items (moves_of moves.now) (E.state executor.old).disk.tree c.tree) }
-    // after a failure the disk is as it was, or on the way of a run of the moves
-    ensures fails { OnErr result (IsTrue (E.state executor.new).is_clean → IsOnTheirWay tree.entry.entries.now tree.entry.pages.now
-        (moves_of moves.now) rule (E.state executor.old).disk (E.state executor.new).disk) }
+    // after a failure too the disk is as it was, or on the way of a run of the moves
+    ensures guards { IsTrue (E.state executor.new).is_clean → Guards
+        (IsOnTheirWay tree.entry.entries.now tree.entry.pages.now (moves_of moves.now) rule (E.state executor.old).disk)
+        (E.state executor.old) (E.state executor.new) }
+    // so it is after a crash at any moment, unless that leaves what might have been left before
+    ensures any_moment { IsTrue (E.state executor.new).is_clean
+        → (c : Disk) → (E.state executor.new).left_since (E.state executor.old).moment c → (E.state executor.old).may_leave c
+        ⊎ IsOnTheirWay tree.entry.entries.now tree.entry.pages.now (moves_of moves.now) rule (E.state executor.old).disk c }
+    // a fault says what is there
+    ensures halts { IfErr result (λ fault. IsTrue (E.state executor.new).is_clean → IsAfterFault tree.entry.entries.now
+        tree.entry.pages.now (moves_of moves.now) rule (E.state executor.old) (E.state executor.new) fault) }
+    // it fails only if there is no work of a run, for the reason of `planned_work`, or if a call failed
+    ensures cause { IfErr result (λ fault. IsCause tree.entry.entries.now tree.entry.pages.now (moves_of moves.now) rule
+        (E.state executor.old) (E.state executor.new) fault) }
+    // a page that has a name of a run's own is refused, by the number of the first
+    ensures reserved { (k : ℕ) → position has_reserved_name tree.entry.pages.now ≡ Some k
+        → IsErrOf result (Refused (ReservedName k)) }
     // each link that is read still leads to its file, query and fragment kept, or is left; just pages with a text change
     ensures links { IfOk result (λ pages. KeepTheirLinks (F.finds finder.now) tree.entry.root.now (moves_of moves.now)
+        tree.entry.pages.now pages.items) }
+    // each page as by `rewrite_links`, but for targets that are given up, at its path after the moves
+    ensures rewritten { IfOk result (λ pages. AreRewritten (F.finds finder.now) tree.entry.root.now (moves_of moves.now)
         tree.entry.pages.now pages.items) }
 {
     let PlannedWork { pages, texts, work } = match planned_work(alloc, tree, moves, rule, finder) {

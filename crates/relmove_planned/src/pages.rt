@@ -1,15 +1,11 @@
 //! The pages of a tree: their names, and their texts by their paths.
 ghost use Rattle.std.specs.Prelude.{◌≡◌, IfNone, IfOk};
-ghost use Rattle.std.specs.List.{list_any, position};
-ghost use Rattle.relative_path.specs.Components.{step_of};
-ghost use Rattle.relative_path.specs.RelativePath.{path_components};
-ghost use Rattle.relmove_checks.specs.Moves.{is_reserved_step};
+ghost use Rattle.std.specs.List.{position};
 ghost use Rattle.relmove_planned.specs.Plans.{ArePageTexts, HaveNoReservedNames, HaveTexts, has_reserved_name};
 ghost use Rattle.relmove_work.specs.Pages.{page_texts};
 
-use relative_path::{Component, RelativePath};
 use relative_path_links::SitePage;
-use relmove_actions::RESERVED;
+use relmove_checks::has_reserved_name;
 use std::alloc::{AllocError, Global};
 use std::collections::BTreeMap;
 
@@ -21,28 +17,6 @@ pub(crate) fn first_reserved(pages: &[SitePage<'_>]) -> Option<usize>
     pages
         .iter()
         .position(|page| has_reserved_name(page.path.as_relative_path()))
-}
-
-// Returns whether a path has a name of a run's own.
-fn has_reserved_name(path: RelativePath<'_>) -> bool
-    ensures { result ≡ list_any is_reserved_step (path_components path.entry) }
-{
-    for component in path.components() {
-        if is_reserved_step(component) {
-            return true;
-        }
-    }
-    false
-}
-
-// Returns whether a component is a name of a run's own.
-fn is_reserved_step(component: Component<'_>) -> bool
-    ensures { result ≡ is_reserved_step (step_of component.entry) }
-{
-    match component {
-        Component::Normal(name) => name.starts_with(RESERVED),
-        Component::CurDir | Component::ParentDir => false,
-    }
 }
 
 // Returns the texts of pages, by their paths.

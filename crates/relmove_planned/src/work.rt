@@ -1,13 +1,12 @@
 //! The work of a run of moves.
-ghost use Rattle.std.specs.Prelude.{◌≡◌, ◌↔◌, ℕ, Some, IfOk, IsErrOf, map, string_bytes};
+ghost use Rattle.std.specs.Prelude.{◌≡◌, ℕ, Some, IfErr, IfOk, IsErrOf, map, string_bytes};
 ghost use Rattle.std.specs.List.{position};
-ghost use Rattle.relative_path_links.specs.Site.{KeepTheirLinks};
+ghost use Rattle.relative_path_links.specs.Site.{AreRewritten, KeepTheirLinks};
 ghost use Rattle.relative_path_moves.specs.Moves.{moves_of};
-ghost use Rattle.relmove_checks.specs.Plan.{IsRefused};
-ghost use Rattle.relmove_checks.specs.declared.refusal.Refusal.{Refusal as MoveRefusal};
 ghost use Rattle.relmove_plan.specs.WholeTrees.{IsWhole};
-ghost use Rattle.relmove_planned.specs.Plans.{HasNoRun, HasRun, has_reserved_name};
-ghost use Rattle.relmove_planned.specs.declared.refusal.WorkRefusal.TheVariants.{LacksText, Moves, NotOfRun, ReservedName};
+ghost use Rattle.relmove_planned.specs.Faults.{IsNoWork};
+ghost use Rattle.relmove_planned.specs.Plans.{HasRun, has_reserved_name};
+ghost use Rattle.relmove_planned.specs.declared.refusal.WorkRefusal.TheVariants.{ReservedName};
 ghost use Rattle.relmove_steps.specs.Pages.{page_paths};
 
 use crate::pages::{first_reserved, texts_by_path};
@@ -65,16 +64,13 @@ pub fn planned_work<F: Finder>(
     // each link that is read still leads to its file, query and fragment kept, or is left; just pages with a text change
     ensures links { IfOk result (λ planned. KeepTheirLinks (F.finds finder.now) tree.entry.root.now (moves_of moves.now)
         tree.entry.pages.now planned.pages.items) }
-    // `ReservedName` comes exactly if a page has a name of a run's own, and has the number of the first
-    ensures reserved { (k : ℕ) → IsErrOf result (ReservedName k) ↔ (position has_reserved_name tree.entry.pages.now ≡ Some k) }
-    // `Moves` says why the moves are refused, or `OutOfMemory`
-    ensures refused { (refusal : MoveRefusal) → IsErrOf result (Moves refusal)
-        → IsRefused tree.entry.entries.now (moves_of moves.now) rule refusal }
-    // `LacksText` comes only if entries aren't whole
-    ensures lacks { IsErrOf result LacksText → ¬ IsWhole tree.entry.entries.now (page_paths tree.entry.pages.now) }
-    // `NotOfRun` comes only if no run can have the work of a plan
-    ensures not_of_run { IsErrOf result NotOfRun → IsWhole tree.entry.entries.now (page_paths tree.entry.pages.now)
-        → HasNoRun tree.entry.entries.now tree.entry.pages.now (moves_of moves.now) rule }
+    // each page as by `rewrite_links`, but for targets that are given up, at its path after the moves
+    ensures rewritten { IfOk result (λ planned. AreRewritten (F.finds finder.now) tree.entry.root.now (moves_of moves.now)
+        tree.entry.pages.now planned.pages.items) }
+    // a refusal says why there is no such work
+    ensures refused { IfErr result (IsNoWork tree.entry.entries.now tree.entry.pages.now (moves_of moves.now) rule) }
+    // a page that has a name of a run's own is refused, by the number of the first
+    ensures reserved { (k : ℕ) → position has_reserved_name tree.entry.pages.now ≡ Some k → IsErrOf result (ReservedName k) }
 {
     if let Some(page) = first_reserved(tree.pages) {
         return Err(WorkRefusal::ReservedName(page));

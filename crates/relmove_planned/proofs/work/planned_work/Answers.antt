@@ -37,8 +37,8 @@ returns-clause-planned g c = λ whole.
       };
     }
 
-pub returns-in_default-2-clause-lacks : goal.returns-in_default-2-clause-lacks
-returns-in_default-2-clause-lacks g c = λ _ whole.
+pub returns-in_default-2-clause-refused : goal.returns-in_default-2-clause-refused
+returns-in_default-2-clause-refused g c = λ whole.
     let entries = c.args.tree.entries.now in
     let pages = c.args.tree.pages.now in
     let moves = moves_of c.args.moves.now in
@@ -49,8 +49,8 @@ returns-in_default-2-clause-lacks g c = λ _ whole.
     c.in_default.ensures.none p.moved c.in_ok-old_texts.ensures.all
     (c.in_ok-texts.ensures.lacks (ap is_some c.in_default-2.is))
 
-pub returns-then-not-branch-clause-not_of_run : goal.returns-then-not-branch-clause-not_of_run
-returns-then-not-branch-clause-not_of_run g c = λ _ whole.
+pub returns-then-not-branch-clause-refused : goal.returns-then-not-branch-clause-refused
+returns-then-not-branch-clause-refused g c = λ whole.
     let entries = c.args.tree.entries.now in
     let pages = c.args.tree.pages.now in
     let moves = moves_of c.args.moves.now in
