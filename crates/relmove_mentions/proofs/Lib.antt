@@ -1,4 +1,5 @@
 mod FirstLemmas
+mod EndingsLemmas
 mod OldNamesLemmas
 mod SpansLemmas
 mod WrittenLemmas

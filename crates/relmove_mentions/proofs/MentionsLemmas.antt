@@ -1,15 +1,19 @@
 -- The mentions that come before a span, while spans are tried in order.
-use Rattle.std.proofs.Common.{◌≡◌, ◌⊎◌, ℕ, ◌+◌, ◌<◌, ◌≤◌, List, [], ◌∷◌, ◌++◌, length, get_or, inl, inr, refl, sym, ap₂, subst, arith, take, drop, ◌-◌, false}
-use Rattle.std.proofs.lemmas.Bool.{cases_lt}
+use Rattle.std.proofs.Common.{◌≡◌, ◌⊎◌, ℕ, ◌+◌, ◌<◌, ◌≤◌, List, [], ◌∷◌, ◌++◌, length, get_or, inl, inr, refl, sym, true≢false, ap, ap₂, ◌∙◌, subst, arith, take, drop, ◌-◌, false, true, not, ◌&&◌, cond}
+use Rattle.std.proofs.lemmas.Bool.{and_from, cases_lt}
 use Rattle.std.proofs.lemmas.List.{map-append}
 use Rattle.std.proofs.lemmas.List.Elements.{All-map, All-push, All-weaker, Contains-append_left, Contains-push}
 use Rattle.std.proofs.lemmas.List.Quantifiers.{all_pairs_push}
 use Rattle.std.specs.List.{AllPairs, Contains}
 use Rattle.relative_path_places.specs.Views.{view_text}
 use Rattle.relmove_mentions.specs.Mentions.{AreMentionsBefore, IsMention, spans_of}
+use Rattle.relmove_mentions.specs.Endings.{ending_of}
 use Rattle.relmove_mentions.specs.Names.{most_others}
-use Rattle.relmove_mentions.specs.Spans.{ComesBefore, IsEarlier, is_path_byte, others_in}
-use Rattle.relmove_mentions.proofs.SpansLemmas.{others_in-more, others_in-next}
+use Rattle.relmove_mentions.specs.OldNames.{Has, may_end}
+use Rattle.relmove_mentions.specs.declared.old_names.OldNames.{OldNames}
+use Rattle.relmove_mentions.specs.Spans.{ComesBefore, IsEarlier, is_bounded_after, is_path_byte, others_in, span_bytes}
+use Rattle.relmove_mentions.proofs.SpansLemmas.{ending_of-after, others_in-before, others_in-more, others_in-next, others_in-within}
+use Rattle.relmove_mentions.proofs.WrittenLemmas.{may_end-written}
 use Rattle.relmove_mentions.specs.declared.file_text.FileText.{FileText}
 use Rattle.relmove_mentions.specs.declared.mentions.Mention.{Mention}
 use Rattle.relmove_mentions.specs.declared.text_span.TextSpan.{TextSpan}
@@ -124,12 +128,87 @@ AreMentionsBefore-next olds file mentions start end ends are = record {
   ];
 }
 
--- before the end of the text come all mentions
-pub complete-end : (olds : List (List ℕ)) (file : FileText) (mentions : List Mention) (start : ℕ) (span : TextSpan) (old : List ℕ)
-    → length file.text.now ≤ start → AreMentionsBefore olds file mentions start 0 → IsMention olds file span old
-    → Contains (spans_of mentions) span
-complete-end olds file mentions start span old end are is =
-    are.complete span old is (inl (omega (arith, end, is.bounded.order, is.bounded.within)))
+-- if no mention begins between two offsets, those before the first are those before the second
+pub AreMentionsBefore-skip : (olds : List (List ℕ)) (file : FileText) (mentions : List Mention) (start first : ℕ)
+    → start ≤ first
+    → ((span : TextSpan) (old : List ℕ) → IsMention olds file span old → start ≤ span.start → first ≤ span.start)
+    → AreMentionsBefore olds file mentions start 0 → AreMentionsBefore olds file mentions first 0
+AreMentionsBefore-skip olds file mentions start first order none are = record {
+  sound = are.sound;
+  in_order = are.in_order;
+  before = All-weaker _ _ (λ m before. begins_before m.span before) mentions are.before;
+  complete = λ span old is earlier. elim (cases_lt span.start start) [
+    | inl less ↦ are.complete span old is (inl less)
+    | inr later ↦ absurd (not_before span (none span old is later) earlier)
+  ];
+} where
+  begins_before : (span : TextSpan) → IsEarlier span start 0 → IsEarlier span first 0
+  begins_before span (inl before) = inl (omega (arith, before, order))
+  begins_before span (inr (same, before)) = absurd (omega (arith, before))
+
+  not_before : (span : TextSpan) → first ≤ span.start → IsEarlier span first 0 → ⊥
+  not_before span later (inl before) = omega (arith, before, later)
+  not_before span later (inr (same, before)) = omega (arith, before)
+
+-- a mention ends where one may end
+pub ends : (olds : List (List ℕ)) (set : OldNames) (file : FileText) (span : TextSpan) (old : List ℕ) → Has olds set
+    → IsMention olds file span old
+    → (may_end set (ending_of (span_bytes file.text.now span)) ≡ true) × (is_bounded_after file.text.now span.end ≡ true)
+ends olds set file span old has is =
+    (may_end-written olds set file (span_bytes file.text.now span) old has is.is_old is.written, is.bounded.after)
+
+-- up to the end of a mention, the bytes from an offset on end as the mention
+pub ends-from : (olds : List (List ℕ)) (set : OldNames) (file : FileText) (text : List ℕ) (span : TextSpan) (old : List ℕ)
+    (start : ℕ) → Has olds set → file.text.now ≡ text → IsMention olds file span old → start ≤ span.start
+    → (may_end set (ending_of (take (span.end - start) (drop start text))) && is_bounded_after text span.end) ≡ true
+ends-from olds set file text span old start has of is later =
+    subst (λ t. (may_end set (ending_of (take (span.end - start) (drop start t))) && is_bounded_after t span.end) ≡ true) of
+    (and_from _ _ (ap (may_end set) same ∙ end) is.bounded.after) where
+      same : ending_of (take (span.end - start) (drop start file.text.now)) ≡ ending_of (span_bytes file.text.now span)
+      same =
+          ending_of-after file.text.now start span.start span.end later (omega (arith, is.bounded.order)) is.bounded.within
+          is.bounded.before
+
+      end : may_end set (ending_of (span_bytes file.text.now span)) ≡ true
+      end = may_end-written olds set file (span_bytes file.text.now span) old has is.is_old is.written
+
+-- so none ends where they can't end
+pub ends-later : (olds : List (List ℕ)) (set : OldNames) (file : FileText) (text : List ℕ) (span : TextSpan) (old : List ℕ)
+    (start end : ℕ) → Has olds set → file.text.now ≡ text → IsMention olds file span old → start ≤ span.start
+    → end ≤ span.end
+    → (may_end set (ending_of (take (end - start) (drop start text))) && is_bounded_after text end) ≡ false
+    → end < span.end
+ends-later olds set file text span old start end has of is later order none = elim (cases_lt end span.end) [
+  | inl less ↦ less
+  | inr more ↦
+      let same : span.end ≡ end = omega (arith, order, more) in
+      absurd (true≢false (sym (subst
+      (λ e. (may_end set (ending_of (take (e - start) (drop start text))) && is_bounded_after text e) ≡ true) same
+      (ends-from olds set file text span old start has of is later)) ∙ none))
+]
+
+-- a mention doesn't begin before bytes of which it could have all but one
+pub begins-after_other : (olds : List (List ℕ)) (file : FileText) (text : List ℕ) (span : TextSpan) (old : List ℕ)
+    (first end left most : ℕ) → file.text.now ≡ text → IsMention olds file span old → 0 < first → first ≤ end
+    → end ≤ span.end → left ≡ 0 → is_path_byte (get_or text (first - 1) 0) ≡ false
+    → others_in (take (end - first) (drop first text)) + left ≡ most → most ≡ most_others olds → first ≤ span.start
+begins-after_other olds file text span old first end left most of is some order within none other count has =
+    elim (cases_lt span.start first) [
+      | inr later ↦ later
+      | inl less ↦
+          let last : first - 1 + 1 ≡ first = omega (arith, some) in
+          let inside : span.end ≤ length text = subst (λ t. span.end ≤ length t) of is.bounded.within in
+          let few : others_in (span_bytes text span) ≤ most_others olds =
+          subst (λ t. others_in (span_bytes t span) ≤ most_others olds) of is.few in
+          let more : others_in (take (end - (first - 1)) (drop (first - 1) text))
+          ≡ 1 + others_in (take (end - first) (drop first text)) =
+          others_in-before text (first - 1) end (omega (arith, some, order)) (omega (arith, within, inside))
+          ∙ ap (λ b. cond (not b) 1 0 + others_in (take (end - (first - 1 + 1)) (drop (first - 1 + 1) text))) other
+          ∙ ap (λ at. 1 + others_in (take (end - at) (drop at text))) last in
+          let longer = others_in-within text span.start (first - 1) end span.end (omega (arith, some, less))
+          (omega (arith, order)) within in
+          absurd (omega (arith, more, longer, few, none, count, has))
+    ]
 
 -- a mention doesn't go on past a byte that is one too many
 pub ends-before_other : (olds : List (List ℕ)) (file : FileText) (span : TextSpan) (old : List ℕ) (start end left most : ℕ)

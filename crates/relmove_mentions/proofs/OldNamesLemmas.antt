@@ -1,10 +1,9 @@
 -- The names that a set of old paths has, and what it finds by them.
 use Rattle.std.proofs.Common.{◌≡◌, ◌⊎◌, ℕ, ◌<◌, Bool, true, false, List, [], ◌∷◌, ◌++◌, map, Option, Some, None, IsSome, unwrap_or, cond, inl, inr, refl, sym, ap, ◌∙◌, subst, true≢false, arith, append_assoc, codes, get_or, length, max, not, ◌||◌, take, ◌+◌, ◌≤◌}
 use Rattle.std.specs.BTreeMap.{get_by_text}
-use Rattle.std.specs.BTreeSet.{contains_text}
 use Rattle.std.specs.List.{Contains}
 use Rattle.std.specs.Map.{update}
-use Rattle.std.specs.Option.{option_map}
+use Rattle.std.specs.Option.{option_and_then, option_map, option_map_or}
 use Rattle.std.specs.Str.{bytes_eq}
 use Rattle.std.proofs.lemmas.List.{flat_map_more, length-map, map-append, map_more, take_all}
 use Rattle.std.proofs.Math.ListN.{get_or-map}
@@ -12,22 +11,24 @@ use Rattle.std.proofs.lemmas.List.Sums.{fold-append}
 use Rattle.std.proofs.lemmas.List.Elements.{Contains-append_left, Contains-append_right, Contains-get_or, Contains-push_cases}
 use Rattle.std.proofs.lemmas.Option.{same_Some}
 use Rattle.std.proofs.lemmas.Slice.Eq.{bytes_eq-Decides}
-use Rattle.relative_path.specs.Steps.{Step, classed, components, cur, dot, name as named, step_text, up}
+use Rattle.relative_path.specs.Steps.{Step, classed, components, cur, dot, name as named, slash, step_text, up}
 use Rattle.relative_path.specs.Editing.{kept}
-use Rattle.relative_path.specs.Naming.{file_name_of, stem_of}
+use Rattle.relative_path.specs.Naming.{file_name_of, last_name, stem_of}
 use Rattle.relative_path.specs.Walk.{IsSame}
-use Rattle.relative_path.specs.Normalizing.{IsNormalTextOf}
+use Rattle.relative_path.specs.Normalizing.{IsNormal, IsNormalTextOf}
 use Rattle.relative_path.specs.RelativePath.{path_components}
 use Rattle.relative_path.specs.declared.path.RelativePath.{RelativePath}
-use Rattle.relative_path.proofs.ForCallers.{IsSame-append_left, IsSame-last_name, IsSame-sym, IsSame-trans, last_name-IsNormalTextOf, last_name-name}
-use Rattle.relative_path_places.proofs.ForCallers.{IsNormalTextOf-same}
+use Rattle.relative_path.proofs.ForCallers.{IsNormal-push_name, IsNormalForm-some, IsSame-append_left, IsSame-append_right, IsSame-last_name, IsSame-sym, IsSame-trans, kept-name, last_name-IsNormalTextOf, last_name-name}
+use Rattle.relative_path_places.proofs.ForCallers.{IsNormalTextOf-same, normal_unique}
 use Rattle.relative_path_places.specs.Views.{view_text}
 use Rattle.relative_path_places.specs.declared.normal_view.NormalView.{NormalView}
 use Rattle.relmove_mentions.proofs.FirstLemmas.{IsFirst-Contains, IsFirst-append, IsFirst-append_cases, IsFirst-holds, IsFirst-push, first, first_or_rest, rest}
+use Rattle.relmove_mentions.specs.Endings.{hash_of, last_two_of}
 use Rattle.relmove_mentions.specs.First.{IsFirst}
+use Rattle.relmove_mentions.specs.Hashes.{may_have}
 use Rattle.relmove_mentions.specs.Names.{bare_names, directory_names, index_names, is_bare_name, is_index_page, is_page, most_others, names_of, page_names}
 use Rattle.relmove_mentions.specs.Spans.{others_in}
-use Rattle.relmove_mentions.specs.OldNames.{Finds, Has, HasText, Lists, PathName, all_names, with_names}
+use Rattle.relmove_mentions.specs.OldNames.{Finds, Has, HasLastName, HasText, Lists, PathName, all_names, may_have_last_two, with_names}
 use Rattle.relmove_mentions.specs.Written.{LeadsFrom, LeadsToName, LeadsToPath, StandsFor}
 use Rattle.relmove_mentions.specs.declared.file_text.FileText.{FileText}
 use Rattle.relmove_mentions.specs.declared.old_names.OldNames.{OldNames}
@@ -41,8 +42,14 @@ IsInserted old new text path = (other : List ℕ) → get_by_text new.by_text ot
 
 -- the set has the last name of the text, and those that it had
 abbrev pub HasLast : OldNames → OldNames → List ℕ → Type 0
-HasLast old new text = (n : List ℕ) → (file_name_of text ≡ Some n → contains_text new.last_names n ≡ true)
-    × (contains_text old.last_names n ≡ true → contains_text new.last_names n ≡ true)
+HasLast old new text = (n : List ℕ) → (file_name_of text ≡ Some n → HasLastName new n)
+    × (HasLastName old n → HasLastName new n)
+
+-- the set has the last two names of the text, and those that it had
+abbrev pub HasLastTwo : OldNames → OldNames → List ℕ → Type 0
+HasLastTwo old new text = (hash : ℕ)
+    → (last_two_of (components text) ≡ Some hash → may_have new.last_twos hash ≡ true)
+    × (may_have old.last_twos hash ≡ true → may_have new.last_twos hash ≡ true)
 
 -- the last name of a list that leads to a name is that of the name's normal text
 last_name-normal : (steps front : List Step) (n text : List ℕ) → IsNormalTextOf steps text
@@ -53,11 +60,36 @@ last_name-normal steps front n text normal same =
     let is = last_name-name front n in
     last_name-IsNormalTextOf of (subst IsSome (sym is) refl) ∙ is
 
+-- the last two names of a list
+two_names : (cs : List Step) (d n : List ℕ)
+    → last_two_of ((cs ++ named d ∷ []) ++ named n ∷ []) ≡ Some (hash_of (d ++ slash ∷ n))
+two_names cs d n =
+    ap (option_and_then (λ m. option_map (λ e. hash_of (e ++ slash ∷ m))
+    (last_name (kept ((cs ++ named d ∷ []) ++ named n ∷ []))))) (last_name-name (cs ++ named d ∷ []) n)
+    ∙ ap (λ ds. option_map (λ e. hash_of (e ++ slash ∷ n)) (last_name ds)) (kept-name (cs ++ named d ∷ []) n)
+    ∙ ap (option_map (λ e. hash_of (e ++ slash ∷ n))) (last_name-name cs d)
+
+-- the same for the last two names
+last_two-normal : (steps front : List Step) (d n text : List ℕ) → IsNormalTextOf steps text
+    → IsSame (front ++ named d ∷ named n ∷ []) steps → last_two_of (components text) ≡ Some (hash_of (d ++ slash ∷ n))
+last_two-normal steps front d n text normal same =
+    let (ds, form) = IsNormalForm-some front in
+    let two : List Step = (ds ++ named d ∷ []) ++ named n ∷ [] in
+    let is_normal : IsNormal two =
+    IsNormal-push_name (ds ++ named d ∷ []) n (IsNormal-push_name ds d form.normal) in
+    let joined : ds ++ named d ∷ named n ∷ [] ≡ two = sym (append_assoc ds (named d ∷ []) (named n ∷ [])) in
+    let leads : IsSame two (components text) =
+    IsSame-trans (IsSame-sym (subst (IsSame (front ++ named d ∷ named n ∷ [])) joined
+    (IsSame-append_right (named d ∷ named n ∷ []) form.same))) (IsSame-trans same normal.same) in
+    let is : components text ≡ two =
+    sym (normal_unique two (components text) is_normal normal.normal_text.normal leads) in
+    ap last_two_of is ∙ two_names ds d n
+
 pub Lists-insert : (names : List PathName) (path : NormalView) (name : List Step) (old new : OldNames)
-    (text : List ℕ) → IsNormalTextOf name text → IsInserted old new text path → HasLast old new text → Lists names old
-    → Lists (names ++ (view_text path, name) ∷ []) new
-Lists-insert names path name old new text normal inserted has_last lists =
-    record { only = only; each = each; last = last } where
+    (text : List ℕ) → IsNormalTextOf name text → IsInserted old new text path → HasLast old new text
+    → HasLastTwo old new text → Lists names old → Lists (names ++ (view_text path, name) ∷ []) new
+Lists-insert names path name old new text normal inserted has_last has_two lists =
+    record { only = only; each = each; last = last; last_two = last_two } where
       new_pair : PathName
       new_pair = (view_text path, name)
 
@@ -115,13 +147,23 @@ Lists-insert names path name old new text normal inserted has_last lists =
       ]
 
       last : (o : List ℕ) (steps front : List Step) (n : List ℕ) → Contains more (o, steps)
-          → IsSame (front ++ named n ∷ []) steps → contains_text new.last_names n ≡ true
+          → IsSame (front ++ named n ∷ []) steps → HasLastName new n
       last o steps front n has same = elim (Contains-push_cases names (view_text path, name) (o, steps) has) [
         | inl before ↦ (has_last n).1 (lists.last o steps front n before same)
         | inr is ↦
             let of_name : IsSame (front ++ named n ∷ []) name =
             subst (IsSame (front ++ named n ∷ [])) (sym (ap (λ pair. pair.1) is)) same in
             (has_last n).0 (last_name-normal name front n text normal of_name)
+      ]
+
+      last_two : (o : List ℕ) (steps front : List Step) (d n : List ℕ) → Contains more (o, steps)
+          → IsSame (front ++ named d ∷ named n ∷ []) steps → may_have new.last_twos (hash_of (d ++ slash ∷ n)) ≡ true
+      last_two o steps front d n has same = elim (Contains-push_cases names (view_text path, name) (o, steps) has) [
+        | inl before ↦ (has_two (hash_of (d ++ slash ∷ n))).1 (lists.last_two o steps front d n before same)
+        | inr is ↦
+            let of_name : IsSame (front ++ named d ∷ named n ∷ []) name =
+            subst (IsSame (front ++ named d ∷ named n ∷ [])) (sym (ap (λ pair. pair.1) is)) same in
+            (has_two (hash_of (d ++ slash ∷ n))).0 (last_two-normal name front d n text normal of_name)
       ]
 
 -- ---- each name of each path
@@ -340,27 +382,55 @@ Finds-get olds set cs text None has normal is = λ old is_old first_leads.
     let of = normal_of_name cs text old normal leads in
     absurd (true≢false (sym (subst IsSome (sym is) (has.lists.each old leads.name text listed of))))
 
--- a text whose last name the set lacks stands for no old path
-pub StandsFor-no_last : (olds : List (List ℕ)) (set : OldNames) (file : FileText) (text n old : List ℕ) → Has olds set
-    → Contains olds old → file_name_of text ≡ Some n → contains_text set.last_names n ≡ false
-    → StandsFor olds file text old → ⊥
-StandsFor-no_last olds set file text n old has is_old is none stands = elim stands.leads [
-  | inl (below, from) ↦ no from.directory from.leads
-  | inr (some, from) ↦ no from.directory from.leads
+-- the set has what such a text ends in, if it has that of each name of an old path to which the text leads from a directory
+StandsFor-ends : (olds : List (List ℕ)) (file : FileText) (text : List ℕ) (end : List Step) (old : List ℕ) (P : Type 0)
+    → Contains olds old → IsSame (components text) end → StandsFor olds file text old
+    → ((o : List ℕ) (steps front : List Step) → Contains (all_names olds) (o, steps) → IsSame (front ++ end) steps → P) → P
+StandsFor-ends olds file text end old P is_old same stands then = elim stands.leads [
+  | inl (below, from) ↦ found from.directory from.leads
+  | inr (some, from) ↦ found from.directory from.leads
 ] where
-  ends : IsSame (components text) (kept (components text) ++ named n ∷ [])
-  ends = IsSame-last_name (components text) n is
-
-  no : (directory : List Step) → LeadsToPath olds (directory ++ components text) old → ⊥
-  no directory first_leads =
+  found : (directory : List Step) → LeadsToPath olds (directory ++ components text) old → P
+  found directory first_leads =
       let leads : LeadsToName (directory ++ components text) old =
       IsFirst-holds (LeadsToName (directory ++ components text)) olds old first_leads in
-      let same : IsSame ((directory ++ kept (components text)) ++ named n ∷ []) leads.name =
-      IsSame-trans (IsSame-sym (subst (IsSame (directory ++ components text))
-      (sym (append_assoc directory (kept (components text)) (named n ∷ [])))
-      (IsSame-append_left directory ends))) leads.same in
-      let listed = all_names-Contains olds old leads.name is_old leads.is_name in
-      true≢false (sym (has.lists.last old leads.name (directory ++ kept (components text)) n listed same) ∙ none)
+      then old leads.name directory (all_names-Contains olds old leads.name is_old leads.is_name)
+      (IsSame-trans (IsSame-sym (IsSame-append_left directory same)) leads.same)
+
+-- the set has the last name of a text that stands for an old path
+pub StandsFor-last : (olds : List (List ℕ)) (set : OldNames) (file : FileText) (text n old : List ℕ) → Has olds set
+    → Contains olds old → file_name_of text ≡ Some n → StandsFor olds file text old → HasLastName set n
+StandsFor-last olds set file text n old has is_old is stands =
+    StandsFor-ends olds file text (kept (components text) ++ named n ∷ []) old (HasLastName set n) is_old
+    (IsSame-last_name (components text) n is) stands
+    (λ o steps front listed same.
+    has.lists.last o steps (front ++ kept (components text)) n listed
+    (subst (λ cs. IsSame cs steps) (sym (append_assoc front (kept (components text)) (named n ∷ []))) same))
+
+-- and its last two names
+pub StandsFor-last_two : (olds : List (List ℕ)) (set : OldNames) (file : FileText) (text old : List ℕ) → Has olds set
+    → Contains olds old → StandsFor olds file text old → may_have_last_two set (components text) ≡ true
+StandsFor-last_two olds set file text old has is_old stands =
+    of (last_name cs) (last_name (kept cs)) refl refl where
+      cs : List Step
+      cs = components text
+
+      of : (a b : Option (List ℕ)) → last_name cs ≡ a → last_name (kept cs) ≡ b
+          → option_map_or (may_have set.last_twos) (option_and_then (λ n. option_map (λ d. hash_of (d ++ slash ∷ n)) b) a) true
+          ≡ true
+      of None b is above = refl
+      of (Some n) None is above = refl
+      of (Some n) (Some d) is above =
+          let front = kept (kept cs) in
+          let two : front ++ named d ∷ named n ∷ [] ≡ (front ++ named d ∷ []) ++ named n ∷ [] =
+          sym (append_assoc front (named d ∷ []) (named n ∷ [])) in
+          let same : IsSame cs (front ++ named d ∷ named n ∷ []) =
+          subst (IsSame cs) (sym two)
+          (IsSame-trans (IsSame-last_name cs n is) (IsSame-append_right (named n ∷ []) (IsSame-last_name (kept cs) d above))) in
+          StandsFor-ends olds file text (front ++ named d ∷ named n ∷ []) old _ is_old same stands
+          (λ o steps base listed leads.
+          has.lists.last_two o steps (base ++ front) d n listed
+          (subst (λ ds. IsSame ds steps) (sym (append_assoc base front (named d ∷ named n ∷ []))) leads))
 
 -- ---- a search from one directory after another
 

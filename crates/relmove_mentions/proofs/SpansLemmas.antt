@@ -1,12 +1,15 @@
 -- Spans in order, and the bytes of a span that aren't path bytes.
-use Rattle.std.proofs.Common.{◌≡◌, ℕ, zero, suc, cond, ◌+◌, ◌-◌, ◌<◌, ◌≤◌, Bool, true, false, not, ◌||◌, ◌&&◌, List, [], ◌∷◌, length, take, drop, get_or, refl, sym, ap, ◌∙◌, subst, arith, length-drop, drop-cons}
+use Rattle.std.proofs.Common.{◌≡◌, ◌==◌, ◌++◌, inl, inr, ℕ, zero, suc, cond, ◌+◌, ◌-◌, ◌<◌, ◌≤◌, Bool, true, false, not, ◌||◌, ◌&&◌, List, [], ◌∷◌, length, take, drop, get_or, refl, sym, ap, ◌∙◌, subst, arith, length-drop, drop-cons}
 use Rattle.std.specs.Prelude.{nat_le}
-use Rattle.std.specs.List.{list_all}
-use Rattle.std.proofs.lemmas.Bool.{le-leb}
-use Rattle.std.proofs.lemmas.List.{get_or-drop, take-take}
-use Rattle.std.proofs.lemmas.List.Sums.{sum_by-take-le, sum_by_more}
+use Rattle.std.specs.List.{fold, list_all}
+use Rattle.std.proofs.lemmas.Bool.{cases_lt, eqb-true, le-leb, or_cases}
+use Rattle.std.proofs.lemmas.List.{drop-drop, get_or-drop, take-take}
+use Rattle.std.proofs.lemmas.List.Sums.{fold-append, fold_more, sum_by-append, sum_by-cons, sum_by-take-le, sum_by_more}
 use Rattle.std.proofs.Math.ListN.{drop_of_length-le}
-use Rattle.relmove_mentions.specs.Spans.{ArePassed, FollowFrom, is_apart, is_other_byte, is_path_byte, others_in}
+use Rattle.std.proofs.Math.Seq.{take-add}
+use Rattle.relmove_mentions.proofs.EndingsLemmas.{next-other, other-not_slash}
+use Rattle.relmove_mentions.specs.Endings.{ending_of, next_ending, no_ending}
+use Rattle.relmove_mentions.specs.Spans.{ArePassed, FollowFrom, is_apart, is_bounded_before, is_other_byte, is_path_byte, others_in}
 use Rattle.relmove_mentions.specs.declared.text_span.TextSpan.{TextSpan}
 
 -- ---- spans in order
@@ -93,6 +96,91 @@ others_in-left text start end left more most order within count is =
 pub others_in-none : (text : List ℕ) (start : ℕ) → others_in (take (start - start) (drop start text)) ≡ 0
 others_in-none text start =
     let none : start - start ≡ 0 = omega arith in ap (λ n. others_in (take n (drop start text))) none
+
+-- the bytes of a span, from an offset in it on
+take-after : (text : List ℕ) (start mid end : ℕ) → start ≤ mid → mid ≤ end
+    → take (end - start) (drop start text) ≡ take (mid - start) (drop start text) ++ take (end - mid) (drop mid text)
+take-after text start mid end order within =
+    let len : end - start ≡ mid - start + (end - mid) = omega (arith, order, within) in
+    let at : start + (mid - start) ≡ mid = omega (arith, order) in
+    ap (λ n. take n (drop start text)) len ∙ take-add (mid - start) (end - mid) (drop start text)
+    ∙ ap (λ rest. take (mid - start) (drop start text) ++ take (end - mid) rest)
+    (drop-drop (mid - start) start text ∙ ap (λ n. drop n text) at)
+
+-- a span within another one has no more of them
+pub others_in-within : (text : List ℕ) (start mid end last : ℕ) → start ≤ mid → mid ≤ end → end ≤ last
+    → others_in (take (end - mid) (drop mid text)) ≤ others_in (take (last - start) (drop start text))
+others_in-within text start mid end last order within more =
+    let parts = ap others_in (take-after text start mid last order (omega (arith, within, more)))
+    ∙ sum_by-append (λ b. cond (is_other_byte b) 1 0) (take (mid - start) (drop start text)) (take (last - mid) (drop mid text)) in
+    let longer = others_in-more (drop mid text) (end - mid) (last - mid) (omega (arith, more)) in
+    omega (arith, parts, longer)
+
+-- with one more byte before
+pub others_in-before : (text : List ℕ) (first end : ℕ) → first < end → end ≤ length text
+    → others_in (take (end - first) (drop first text))
+    ≡ cond (is_other_byte (get_or text first 0)) 1 0 + others_in (take (end - (first + 1)) (drop (first + 1) text))
+others_in-before text first end order within =
+    let len : end - first ≡ suc (end - (first + 1)) = omega (arith, order) in
+    let next : suc first ≡ first + 1 = omega arith in
+    ap (λ n. others_in (take n (drop first text))) len
+    ∙ ap (λ rest. others_in (take (suc (end - (first + 1))) rest))
+    (drop-cons text first 0 (omega (arith, order, within)) ∙ ap (λ n. get_or text first 0 ∷ drop n text) next)
+    ∙ sum_by-cons (λ b. cond (is_other_byte b) 1 0) (get_or text first 0) (take (end - (first + 1)) (drop (first + 1) text))
+
+-- with one more byte before, as many may still come as it leaves
+pub others_in-back : (text : List ℕ) (first end left more most : ℕ) → 0 < first → first ≤ end → end ≤ length text
+    → others_in (take (end - first) (drop first text)) + left ≡ most
+    → cond (is_other_byte (get_or text (first - 1) 0)) 1 0 + more ≡ left
+    → others_in (take (end - (first - 1)) (drop (first - 1) text)) + more ≡ most
+others_in-back text first end left more most some order within count is =
+    let last : first - 1 + 1 ≡ first = omega (arith, some) in
+    let next : others_in (take (end - (first - 1)) (drop (first - 1) text))
+    ≡ cond (is_other_byte (get_or text (first - 1) 0)) 1 0 + others_in (take (end - first) (drop first text)) =
+    others_in-before text (first - 1) end (omega (arith, some, order)) within
+    ∙ ap (λ at. cond (is_other_byte (get_or text (first - 1) 0)) 1 0 + others_in (take (end - at) (drop at text))) last in
+    omega (arith, next, count, is)
+
+-- ---- what the bytes of a span end in
+
+-- with one more byte
+pub ending_of-next : (text : List ℕ) (start end : ℕ) → start ≤ end → end < length text
+    → ending_of (take (end + 1 - start) (drop start text))
+    ≡ next_ending (ending_of (take (end - start) (drop start text))) (get_or text end 0)
+ending_of-next text start end order within =
+    let len : end + 1 - start ≡ end - start + 1 = omega (arith, order) in
+    let at : start + (end - start) ≡ end = omega (arith, order) in
+    let inside : end - start < length (drop start text) = omega (arith, order, within, length-drop start text) in
+    ap (λ n. ending_of (take n (drop start text))) len
+    ∙ fold_more next_ending no_ending (drop start text) (end - start) 0 inside
+    ∙ ap (next_ending (ending_of (take (end - start) (drop start text))))
+    (get_or-drop start text (end - start) 0 ∙ ap (λ k. get_or text k 0) at)
+
+-- no byte ends in nothing
+pub ending_of-none : (text : List ℕ) (start : ℕ) → ending_of (take (start - start) (drop start text)) ≡ no_ending
+ending_of-none text start = let none : start - start ≡ 0 = omega arith in ap (λ n. ending_of (take n (drop start text))) none
+
+-- bytes before a bound don't matter
+pub ending_of-after : (text : List ℕ) (start mid end : ℕ) → start ≤ mid → mid ≤ end → end ≤ length text
+    → is_bounded_before text mid ≡ true
+    → ending_of (take (end - start) (drop start text)) ≡ ending_of (take (end - mid) (drop mid text))
+ending_of-after text start mid end order within inside bounded = elim (cases_lt start mid) [
+  | inr same ↦
+      let is : start ≡ mid = omega (arith, order, same) in
+      ap (λ at. ending_of (take (end - at) (drop at text))) is
+  | inl less ↦ elim (or_cases (mid == 0) (is_other_byte (get_or text (mid - 1) 0)) bounded) [
+    | inl none ↦ absurd (let is = eqb-true mid 0 none in omega (arith, less, is))
+    | inr other ↦
+        let last : mid - 1 + 1 ≡ mid = omega (arith, less) in
+        let reset : ending_of (take (mid - start) (drop start text)) ≡ no_ending =
+        ap (λ at. ending_of (take (at - start) (drop start text))) (sym last)
+        ∙ ending_of-next text start (mid - 1) (omega (arith, less)) (omega (arith, less, within, inside))
+        ∙ next-other _ (get_or text (mid - 1) 0) (other-not_slash (get_or text (mid - 1) 0) other) other in
+        ap ending_of (take-after text start mid end order within)
+        ∙ fold-append next_ending no_ending (take (mid - start) (drop start text)) (take (end - mid) (drop mid text))
+        ∙ ap (λ e. fold next_ending e (take (end - mid) (drop mid text))) reset
+  ]
+]
 
 -- ---- the spans after so many
 

@@ -1,15 +1,19 @@
 -- The names that an `OldNames` has.
-use Rattle.std.specs.Prelude.{◌≡◌, ℕ, List, map, Option, Some, MatchOption, IsSome, IsTrue, ◌++◌, ◌∷◌, []}
+use Rattle.std.specs.Prelude.{◌≡◌, ℕ, Bool, true, ◌==◌, ◌||◌, List, map, Option, Some, MatchOption, IsSome, IsTrue, ◌++◌, ◌∷◌, []}
 use Rattle.std.specs.BTreeMap.{get_by_text}
 use Rattle.std.specs.BTreeSet.{contains_text}
 use Rattle.std.specs.List.{Contains, flat_map}
-use Rattle.relative_path.specs.Steps.{Step, name}
+use Rattle.std.specs.Option.{option_map_or}
+use Rattle.relative_path.specs.Steps.{Step, name, dot, slash}
 use Rattle.relative_path.specs.Walk.{IsSame}
 use Rattle.relative_path.specs.Normalizing.{IsNormalTextOf}
 use Rattle.relative_path_places.specs.Views.{view_text}
 use Rattle.relative_path_places.specs.declared.normal_view.NormalView.{NormalView}
+use Rattle.relmove_mentions.specs.Endings.{ending_of, hash_of, last_two_of}
 use Rattle.relmove_mentions.specs.First.{IsFirst}
+use Rattle.relmove_mentions.specs.Hashes.{may_have}
 use Rattle.relmove_mentions.specs.Names.{names_of, most_others}
+use Rattle.relmove_mentions.specs.declared.endings.Ending.{Ending}
 use Rattle.relmove_mentions.specs.declared.old_names.OldNames.{OldNames}
 
 -- a path, and one of its names
@@ -28,15 +32,30 @@ with_names old names = map (λ steps. (old, steps)) names
 abbrev pub all_names : List (List ℕ) → List PathName
 all_names olds = flat_map (λ old. with_names old (names_of old)) olds
 
+-- the set has this last name, and what it ends in
+pub record HasLastName (set : OldNames) (n : List ℕ) : Type 0 where
+  pub listed : IsTrue (contains_text set.last_names n)
+  pub ending : IsTrue (may_have set.endings (ending_of n).hash)
+
+-- a name of the set may end as a text does
+abbrev pub may_end : OldNames → Ending → Bool
+may_end set ending = ending.encoded || ending.hash == dot || may_have set.endings ending.hash
+
+-- a name of the set may end in the last two names of the components
+abbrev pub may_have_last_two : OldNames → List Step → Bool
+may_have_last_two set cs = option_map_or (may_have set.last_twos) (last_two_of cs) true
+
 -- under the normal text of a name the set has the first path with this name, and under no other text a path; it has
--- the last name of each
+-- the last name of each, and its last two names
 pub record Lists (names : List PathName) (set : OldNames) : Type 0 where
   pub only : (text : List ℕ) (path : NormalView) → get_by_text set.by_text text ≡ Some path
       → (steps : List Step) × IsFirst (HasText text) names (view_text path, steps)
   pub each : (old : List ℕ) (steps : List Step) (text : List ℕ) → Contains names (old, steps) → IsNormalTextOf steps text
       → IsSome (get_by_text set.by_text text)
   pub last : (old : List ℕ) (steps front : List Step) (n : List ℕ) → Contains names (old, steps)
-      → IsSame (front ++ name n ∷ []) steps → IsTrue (contains_text set.last_names n)
+      → IsSame (front ++ name n ∷ []) steps → HasLastName set n
+  pub last_two : (old : List ℕ) (steps front : List Step) (d n : List ℕ) → Contains names (old, steps)
+      → IsSame (front ++ name d ∷ name n ∷ []) steps → IsTrue (may_have set.last_twos (hash_of (d ++ slash ∷ n)))
 
 -- the set has these old paths
 pub record Has (olds : List (List ℕ)) (set : OldNames) : Type 0 where

@@ -5,6 +5,8 @@
 //! ```text
 //! the mentions in a text        mentions
 //! the old paths, by their names old_names
+//! sets of hashes                hashes
+//! what a text ends in           endings
 //! a file's text                 file_text
 //! spans of a text               text_span
 //! ```
@@ -15,7 +17,9 @@ pub use self::mentions::Mention;
 pub use self::old_names::{OldNames, is_page};
 pub use self::text_span::{TextSpan, are_spans_in_order};
 
+mod endings;
 mod file_text;
+mod hashes;
 mod mentions;
 mod old_names;
 mod text_span;

@@ -1,17 +1,19 @@
 //! The mentions of old paths in a text.
-ghost use Rattle.std.specs.Prelude.{◌≡◌, ◌≤◌, ◌<◌, ◌+◌, ◌++◌, ◌==◌, ℕ, List, IfNone, IfOk, IfSome, OnOk, drop, false, length, map, if◌then◌else◌, IsTrue};
+ghost use Rattle.std.specs.Prelude.{◌≡◌, ◌≤◌, ◌<◌, ◌+◌, ◌++◌, ◌==◌, ◌&&◌, ℕ, List, IfNone, IfOk, IfSome, OnOk, drop, false, length, map, if◌then◌else◌, IsTrue};
 ghost use Rattle.std.specs.List.{All, AllPairs, Contains, list_all, list_any};
 ghost use Rattle.percent_encoding.specs.Percent.{percent_sign};
 ghost use Rattle.relative_path.specs.Unix.{has_root};
 ghost use Rattle.relative_path.specs.RelativePath.{path_components, path_text};
 ghost use Rattle.relative_path_places.specs.Views.{view_text};
+ghost use Rattle.relmove_mentions.specs.Endings.{ending_of};
 ghost use Rattle.relmove_mentions.specs.Mentions.{AreMentionsBefore, IsMention, spans_of};
-ghost use Rattle.relmove_mentions.specs.OldNames.{Finds, Has};
+ghost use Rattle.relmove_mentions.specs.OldNames.{Finds, Has, may_end};
 ghost use Rattle.relmove_mentions.specs.Spans.{
   ArePassed,
   ComesBefore,
   FollowFrom,
   is_apart,
+  is_bounded_after,
   is_bounded_before,
   is_other_byte,
   is_path_byte,
@@ -29,6 +31,7 @@ ghost use Rattle.relmove_mentions.specs.Written.{
 };
 ghost use Rattle.relmove_mentions.specs.declared.text_span.TextSpan.{TextSpan};
 
+use crate::endings::Ending;
 use crate::file_text::FileText;
 use crate::old_names::OldNames;
 use crate::text_span::{TextSpan, is_apart, is_bounded_after, is_bounded_before, is_path_byte};
@@ -92,12 +95,93 @@ impl<'p> OldNames<'p> {
         let mut mentions = Vec::new(alloc);
         let mut passed = 0;
         let mut start = 0;
-        while start < file.text.len() {
+        while let Some(end) = self.next_end(file.text, start) {
+            start = self.first_start(file.text, start, end);
             passed = count_passed(file.read, passed, start);
-            self.push_from(alloc, file, passed, start, &mut mentions)?;
-            start += 1;
+            self.push_between(alloc, file, passed, TextSpan { start, end }, &mut mentions)?;
+            start = end;
         }
         Ok(mentions)
+    }
+
+    // Returns the first offset after another at which a mention can end. `None` if there is no such offset.
+    fn next_end(&self, text: &[u8], start: usize) -> Option<usize>
+        requires { start ≤ length text.now }
+        ensures none { IfNone result ((olds : List (List ℕ)) (file : FileText) (span : TextSpan) (old : List ℕ)
+            → Has olds self.now → file.text.now ≡ text.now → IsMention olds file span old → span.start < start) }
+        ensures after { IfSome result (λ end. start < end) }
+        ensures within { IfSome result (λ end. end ≤ length text.now) }
+        ensures first { IfSome result (λ end. (olds : List (List ℕ)) (file : FileText) (span : TextSpan) (old : List ℕ)
+            → Has olds self.now → file.text.now ≡ text.now → IsMention olds file span old → start ≤ span.start
+            → end ≤ span.end) }
+    {
+        let mut ending = Ending::none();
+        let mut end = start;
+        while end < text.len() {
+            ending = ending.then(text[end]);
+            end += 1;
+            if self.can_end(ending, text, end) {
+                return Some(end);
+            }
+        }
+        None
+    }
+
+    // Returns whether a mention can end at an offset, before which a text ends so.
+    #[inline]
+    fn can_end(&self, ending: Ending, text: &[u8], end: usize) -> bool
+        ensures { result ≡ (may_end self.now ending && is_bounded_after text.now end) }
+    {
+        self.may_end(ending) && is_bounded_after(text, end)
+    }
+
+    // Returns the first offset from a start on at which a mention can begin that ends at an offset or later.
+    fn first_start(&self, text: &[u8], start: usize, end: usize) -> usize
+        requires order { start ≤ end }
+        requires within { end ≤ length text.now }
+        ensures after { start ≤ result }
+        ensures before { result ≤ end }
+        ensures first { (olds : List (List ℕ)) (file : FileText) (span : TextSpan) (old : List ℕ)
+            → Has olds self.now → file.text.now ≡ text.now → IsMention olds file span old → start ≤ span.start
+            → end ≤ span.end → result ≤ span.start }
+    {
+        let mut left = self.most_others();
+        let mut first = end;
+        while start < first {
+            let Some(more) = others_left(text[first - 1], left) else {
+                return first;
+            };
+            left = more;
+            first -= 1;
+        }
+        first
+    }
+
+    // Appends the mentions that begin in a span. So many of the spans that were read end before it.
+    fn push_between(
+        &self,
+        alloc: Global,
+        file: FileText<'_>,
+        passed: usize,
+        span: TextSpan,
+        mentions: &mut Vec<Mention<'p>>,
+    ) -> Result<(), AllocError>
+        requires order { span.start ≤ span.end }
+        requires within { span.end ≤ length file.text.now }
+        requires in_order { FollowFrom 0 file.read.now }
+        requires passed { ArePassed file.read.now passed span.start }
+        ensures { OnOk result ((olds : List (List ℕ)) → Has olds self.now
+            → AreMentionsBefore olds file.entry mentions.old.items span.start 0
+            → AreMentionsBefore olds file.entry mentions.new.items span.end 0) }
+    {
+        let mut passed = passed;
+        let mut start = span.start;
+        while start < span.end {
+            passed = count_passed(file.read, passed, start);
+            self.push_from(alloc, file, passed, start, mentions)?;
+            start += 1;
+        }
+        Ok(())
     }
 
     // Appends the mentions that begin at an offset. So many of the spans that were read end before it.
@@ -140,30 +224,35 @@ impl<'p> OldNames<'p> {
             → AreMentionsBefore olds file.entry mentions.new.items (start + 1) 0) }
     {
         let mut left = self.most_others();
+        let mut ending = Ending::none();
         let mut end = start;
         while end < file.text.len() {
             let Some(more) = others_left(file.text[end], left) else {
                 return Ok(());
             };
             left = more;
+            ending = ending.then(file.text[end]);
             end += 1;
-            self.push_at(alloc, file, passed, TextSpan { start, end }, mentions)?;
+            let span = TextSpan { start, end };
+            self.push_at(alloc, file, passed, span, ending, mentions)?;
         }
         Ok(())
     }
 
-    // Appends the mention at a span, if there is one.
+    // Appends the mention at a span that ends so, if there is one.
     fn push_at(
         &self,
         alloc: Global,
         file: FileText<'_>,
         passed: usize,
         span: TextSpan,
+        ending: Ending,
         mentions: &mut Vec<Mention<'p>>,
     ) -> Result<(), AllocError>
         requires order { span.start < span.end }
         requires within { span.end ≤ length file.text.now }
         requires before { IsTrue (is_bounded_before file.text.now span.start) }
+        requires ending { ending ≡ ending_of (span_bytes file.text.now span) }
         requires few { others_in (span_bytes file.text.now span) ≤ self.now.most_others }
         requires in_order { FollowFrom 0 file.read.now }
         requires passed { ArePassed file.read.now passed span.start }
@@ -171,7 +260,7 @@ impl<'p> OldNames<'p> {
             → AreMentionsBefore olds file.entry mentions.old.items span.start span.end
             → AreMentionsBefore olds file.entry mentions.new.items span.start (span.end + 1)) }
     {
-        let found = self.find_at(alloc, file, passed, span)?;
+        let found = self.find_at(alloc, file, passed, span, ending)?;
         match found {
             Some(path) => {
                 mentions.push(Mention { span, path })?;
@@ -181,24 +270,26 @@ impl<'p> OldNames<'p> {
         }
     }
 
-    // Returns an old path that is mentioned at a span.
+    // Returns an old path that is mentioned at a span that ends so.
     fn find_at(
         &self,
         alloc: Global,
         file: FileText<'_>,
         passed: usize,
         span: TextSpan,
+        ending: Ending,
     ) -> Result<Option<NormalView<'p>>, AllocError>
         requires order { span.start < span.end }
         requires within { span.end ≤ length file.text.now }
         requires before { IsTrue (is_bounded_before file.text.now span.start) }
+        requires ending { ending ≡ ending_of (span_bytes file.text.now span) }
         requires few { others_in (span_bytes file.text.now span) ≤ self.now.most_others }
         requires in_order { FollowFrom 0 file.read.now }
         requires passed { ArePassed file.read.now passed span.start }
         ensures { IfOk result (λ found. (olds : List (List ℕ)) → Has olds self.now
             → Finds olds (IsMention olds file.entry span) found) }
     {
-        if !is_bounded_after(file.text, span.end) {
+        if !self.can_end(ending, file.text, span.end) {
             return Ok(None);
         }
         if !is_unread(file.read, passed, span) {
@@ -246,6 +337,9 @@ impl<'p> OldNames<'p> {
             return Ok(None);
         };
         if !self.has_last_name(last) {
+            return Ok(None);
+        }
+        if !self.may_have_last_two(path) {
             return Ok(None);
         }
         if let Some(old) = self.find_from_directory(alloc, file, path)? {

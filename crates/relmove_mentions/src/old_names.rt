@@ -9,6 +9,8 @@ ghost use Rattle.relative_path.specs.Naming.{file_name_of, stem_of};
 ghost use Rattle.relative_path.specs.RelativePath.{path_components, path_text};
 ghost use Rattle.relative_path.specs.Steps.{Step, components};
 ghost use Rattle.relative_path_places.specs.Views.{view_text};
+ghost use Rattle.relmove_mentions.specs.Endings.{ending_of, last_two_of};
+ghost use Rattle.relmove_mentions.specs.Hashes.{may_have};
 ghost use Rattle.relmove_mentions.specs.Names.{
   bare_names,
   directory_names,
@@ -20,14 +22,19 @@ ghost use Rattle.relmove_mentions.specs.Names.{
   names_of,
   page_names,
 };
-ghost use Rattle.relmove_mentions.specs.OldNames.{Has, Lists, with_names};
+ghost use Rattle.relmove_mentions.specs.OldNames.{Has, Lists, may_end, may_have_last_two, with_names};
 ghost use Rattle.relmove_mentions.specs.Spans.{others_in};
 
+use crate::endings::{Ending, ending_of, hash_after};
+use crate::hashes::Hashes;
 use crate::text_span::others_in;
 use relative_path::RelativePath;
 use relative_path_places::{NormalView, directory};
 use std::alloc::{AllocError, Global};
 use std::collections::{BTreeMap, BTreeSet};
+
+// The hash of a full stop.
+const DOT_HASH: u64 = 46;
 
 /// The old paths of a run, by the names under which a file may mention them.
 ///
@@ -44,6 +51,10 @@ use std::collections::{BTreeMap, BTreeSet};
 pub struct OldNames<'p> {
     by_text: BTreeMap<String, NormalView<'p>>,
     last_names: BTreeSet<String>,
+    // The hashes of what the last names end in.
+    endings: Hashes,
+    // Those of the last two names, with a slash between them.
+    last_twos: Hashes,
     most_others: usize,
 }
 
@@ -68,23 +79,25 @@ impl<'p> OldNames<'p> {
     pub fn of(alloc: Global, olds: &[NormalView<'p>]) -> Result<OldNames<'p>, AllocError>
         ensures { IfOk result (Has (map view_text olds.now)) }
     {
-        let mut names = OldNames::new(alloc, most_others_of(olds));
+        let mut names = OldNames::new(alloc, olds.len(), most_others_of(olds))?;
         for old in olds {
             names.insert_names(alloc, *old)?;
         }
         Ok(names)
     }
 
-    // Returns the names of no path.
-    fn new(alloc: Global, most_others: usize) -> OldNames<'p>
-        ensures lists { Lists [] result }
-        ensures most { result.most_others ≡ most_others }
+    // Returns the names of no path, with room for about so many.
+    fn new(alloc: Global, count: usize, most_others: usize) -> Result<OldNames<'p>, AllocError>
+        ensures lists { IfOk result (Lists []) }
+        ensures most { IfOk result (λ names. names.most_others ≡ most_others) }
     {
-        OldNames {
+        Ok(OldNames {
             by_text: BTreeMap::new(alloc),
             last_names: BTreeSet::new(alloc),
+            endings: Hashes::new(alloc, count)?,
+            last_twos: Hashes::new(alloc, count)?,
             most_others,
-        }
+        })
     }
 
     // Inserts the names of an old path.
@@ -181,6 +194,8 @@ impl<'p> OldNames<'p> {
     {
         let normal = name.normalize(alloc)?;
         insert_last_name(alloc, &mut self.last_names, normal.as_relative_path())?;
+        insert_ending(&mut self.endings, normal.as_relative_path());
+        insert_last_two(&mut self.last_twos, normal.as_relative_path());
         let text = normal.into_string();
         self.by_text.entry(text)?.or_insert(old);
         Ok(())
@@ -198,6 +213,24 @@ impl<'p> OldNames<'p> {
         ensures { result ≡ contains_text self.now.last_names name.now }
     {
         self.last_names.contains(name)
+    }
+
+    // Returns whether a name of an old path may end as a text does.
+    #[inline]
+    pub(crate) fn may_end(&self, ending: Ending) -> bool
+        ensures { result ≡ may_end self.now ending }
+    {
+        ending.encoded || ending.hash == DOT_HASH || self.endings.may_have(ending.hash)
+    }
+
+    // Returns whether a name of an old path may end in the last two names of a path.
+    pub(crate) fn may_have_last_two(&self, path: RelativePath<'_>) -> bool
+        ensures { result ≡ may_have_last_two self.now (path_components path.entry) }
+    {
+        match last_two_of(path) {
+            Some(hash) => self.last_twos.may_have(hash),
+            None => true,
+        }
     }
 
     // Returns the first old path with a name, by the name's normal text.
@@ -223,6 +256,38 @@ fn insert_last_name(
         Some(name) => insert_text(alloc, last_names, name),
         None => Ok(()),
     }
+}
+
+// Inserts what the last name of a path ends in.
+fn insert_ending(endings: &mut Hashes, path: RelativePath<'_>)
+    ensures has { (n : List ℕ) → file_name_of (path_text path.entry) ≡ Some n
+        → may_have endings.new (ending_of n).hash ≡ true }
+    ensures keeps { (hash : ℕ) → may_have endings.old hash ≡ true → may_have endings.new hash ≡ true }
+{
+    if let Some(name) = path.file_name() {
+        endings.insert(ending_of(name.as_bytes()).hash);
+    }
+}
+
+// Inserts the last two names of a path.
+fn insert_last_two(last_twos: &mut Hashes, path: RelativePath<'_>)
+    ensures has { (hash : ℕ) → last_two_of (path_components path.entry) ≡ Some hash
+        → may_have last_twos.new hash ≡ true }
+    ensures keeps { (hash : ℕ) → may_have last_twos.old hash ≡ true → may_have last_twos.new hash ≡ true }
+{
+    if let Some(hash) = last_two_of(path) {
+        last_twos.insert(hash);
+    }
+}
+
+// Returns the hash of the last two names of a path, with a slash between them.
+fn last_two_of(path: RelativePath<'_>) -> Option<u64>
+    ensures { result ≡ last_two_of (path_components path.entry) }
+{
+    let name = path.file_name()?;
+    let before = directory(path).file_name()?;
+    let hash = hash_after(hash_after(0, before.as_bytes()), b"/");
+    Some(hash_after(hash, name.as_bytes()))
 }
 
 // Inserts a text.

@@ -1,15 +1,22 @@
 -- A mention is where an old path is written, within bounds and outside what was read.
-use Rattle.std.proofs.Common.{◌≤◌, sym, subst, arith, true≢false, ◌∙◌}
+use Rattle.std.proofs.Common.{◌≤◌, ap, sym, subst, arith, true≢false, ◌∙◌}
+use Rattle.std.proofs.lemmas.Bool.{and_from, and_parts}
 use Rattle.std.proofs.lemmas.Result.{IfOk-weaker}
 use Rattle.relmove_mentions.specs.Mentions.{IsMention}
 use Rattle.relmove_mentions.specs.Spans.{others_in, span_bytes}
+use Rattle.relmove_mentions.specs.OldNames.{may_end}
 use Rattle.relmove_mentions.specs.Written.{IsWritten}
 use Rattle.relmove_mentions.proofs.OldNamesLemmas.{Finds-map}
+use Rattle.relmove_mentions.proofs.WrittenLemmas.{may_end-written}
 use Rattle.relmove_mentions.proofs.old_names.OldNames.find_at.Goals as goal
 
-pub returns-then-not-is_bounded_after : goal.returns-then-not-is_bounded_after
-returns-then-not-is_bounded_after c = λ olds has old is_old is.
-    true≢false (sym is.bounded.after ∙ sym c.is_bounded_after.ensures ∙ c.if-not-is_bounded_after.true)
+pub returns-then-not-can_end : goal.returns-then-not-can_end
+returns-then-not-can_end c = λ olds has old is_old is.
+    let bytes = span_bytes c.args.file.text.now c.args.span in
+    let end = may_end-written olds c.args.self.now c.args.file bytes old has is_old is.written in
+    true≢false
+    (sym (and_from _ _ (ap (may_end c.args.self.now) c.requires.ending ∙ end) is.bounded.after)
+    ∙ sym c.can_end.ensures ∙ c.if-not-can_end.true)
 
 pub returns-then-not-is_unread : goal.returns-then-not-is_unread
 returns-then-not-is_unread c = λ olds has old is_old is.
@@ -29,7 +36,7 @@ returns c =
         order = c.requires.order;
         within = c.requires.within;
         before = c.requires.before;
-        after = sym c.is_bounded_after.ensures ∙ c.if-not-is_bounded_after.false;
+        after = (and_parts _ _ (sym c.can_end.ensures ∙ c.if-not-can_end.false)).1;
       };
       few = subst (λ most. others_in (span_bytes c.args.file.text.now c.args.span) ≤ most) has.most c.requires.few;
       unread =

@@ -1,7 +1,9 @@
 -- The map's entry for the normal text gets the path if it is vacant, and the set has the last name of the text.
 use Rattle.std.proofs.Common.{string_bytes, ap, arith, sym, ◌∙◌}
 use Rattle.std.proofs.lemmas.Map.Text.{text_keys}
+use Rattle.relative_path.specs.Steps.{components}
 use Rattle.relative_path.specs.Naming.{file_name_of}
+use Rattle.relmove_mentions.specs.Endings.{ending_of, last_two_of}
 use Rattle.relative_path.specs.RelativePath.{path_components}
 use Rattle.relmove_mentions.proofs.OldNamesLemmas.{Lists-insert}
 use Rattle.relmove_mentions.proofs.old_names.OldNames.insert.Goals as goal
@@ -11,8 +13,20 @@ returns-clause-lists c = λ names lists.
     Lists-insert names c.args.old (path_components c.args.name) c.args.self.now _ (string_bytes c.into_string-text.result)
     (rw c.into_string-text.ensures.text c.in_ok-normal.ensures.normal_form) (λ other. grind (arith, text_keys))
     (λ n. (
+      (λ is.
+          let text = sym c.into_string-text.ensures.text in
+          record {
+            listed = c.in_ok-insert_last_name.ensures.has n (ap file_name_of (c.as_relative_path.ensures ∙ text) ∙ is);
+            ending = c.insert_ending.ensures.has n (ap file_name_of (c.as_relative_path-2.ensures ∙ text) ∙ is);
+          }),
+      (λ had. record {
+        listed = c.in_ok-insert_last_name.ensures.keeps n had.listed;
+        ending = c.insert_ending.ensures.keeps (ending_of n).hash had.ending;
+      }),
+    ))
+    (λ hash. (
       λ is.
-          c.in_ok-insert_last_name.ensures.has n
-          (ap file_name_of (c.as_relative_path.ensures ∙ sym c.into_string-text.ensures.text) ∙ is),
-      c.in_ok-insert_last_name.ensures.keeps n,
+          c.insert_last_two.ensures.has hash
+          (ap (λ t. last_two_of (components t)) (c.as_relative_path-3.ensures ∙ sym c.into_string-text.ensures.text) ∙ is),
+      c.insert_last_two.ensures.keeps hash,
     )) lists

@@ -1,29 +1,37 @@
--- Each turn appends the mentions that begin at the next offset.
-use Rattle.std.proofs.Common.{arith, refl}
-use Rattle.relmove_mentions.proofs.MentionsLemmas.{AreMentionsBefore-nil, complete-end}
+-- Each turn appends the mentions that begin before the next end.
+use Rattle.std.proofs.Common.{arith, inl, refl}
+use Rattle.relmove_mentions.proofs.MentionsLemmas.{AreMentionsBefore-nil, AreMentionsBefore-skip}
 use Rattle.relmove_mentions.proofs.old_names.OldNames.mentions.Goals as goal
 
-pub loop-start-init : goal.loop-start-init
-loop-start-init c = record {
+pub loop-end-init : goal.loop-end-init
+loop-end-init c = record {
   within = omega arith;
   passed = λ span later. refl;
   so_far = λ olds has. rw c.new-mentions.ensures.items (AreMentionsBefore-nil olds c.args.file);
 }
 
-pub loop-start-preserved : goal.loop-start-preserved
-loop-start-preserved c = record {
-  within = omega (arith, c.loop-start-test.true);
-  passed = λ span later. c.count_passed-passed.ensures span (omega (arith, later));
-  so_far = λ olds has. c.in_ok-push_from.ensures olds has (c.loop-start.invariant.so_far olds has);
+pub loop-end-preserved : goal.loop-end-preserved
+loop-end-preserved c = record {
+  within = c.in-Some.ensures.within;
+  passed = λ span later.
+      c.count_passed-passed.ensures span (omega (arith, later, c.first_start-start.ensures.before));
+  so_far = λ olds has.
+      c.in_ok-push_between.ensures olds has
+      (AreMentionsBefore-skip olds c.args.file c.loop-end.mentions.items c.loop-end.start c.first_start-start.result
+      c.first_start-start.ensures.after
+      (λ span old is later.
+      c.first_start-start.ensures.first olds c.args.file span old has refl is later
+      (c.in-Some.ensures.first olds c.args.file span old has refl is later))
+      (c.loop-end.invariant.so_far olds has));
 }
 
 pub returns-clause-sound : goal.returns-clause-sound
-returns-clause-sound c = λ olds has. (c.loop-start.invariant.so_far olds has).sound
+returns-clause-sound c = λ olds has. (c.loop-end.invariant.so_far olds has).sound
 
 pub returns-clause-complete : goal.returns-clause-complete
 returns-clause-complete c = λ olds has span old is.
-    complete-end olds c.args.file c.loop-start.mentions.items c.loop-start.start span old c.loop-start-test.false
-    (c.loop-start.invariant.so_far olds has) is
+    (c.loop-end.invariant.so_far olds has).complete span old is
+    (inl (c.in_default.ensures.none olds c.args.file span old has refl is))
 
 pub returns-clause-in_order : goal.returns-clause-in_order
-returns-clause-in_order c = λ olds has. (c.loop-start.invariant.so_far olds has).in_order
+returns-clause-in_order c = λ olds has. (c.loop-end.invariant.so_far olds has).in_order

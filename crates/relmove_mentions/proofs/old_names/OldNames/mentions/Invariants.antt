@@ -5,12 +5,12 @@ use Rattle.relmove_mentions.specs.OldNames.{Has}
 use Rattle.relmove_mentions.specs.Spans.{ArePassed}
 use Rattle.relmove_mentions.proofs.old_names.OldNames.mentions.Given as goal
 
-abbrev pub invariant-loop-start : goal.invariant-loop-start
-invariant-loop-start l = record {
+abbrev pub invariant-loop-end : goal.invariant-loop-end
+invariant-loop-end l = record {
   within : l.start ≤ length l.file.text.now;
   passed : ArePassed l.file.read.now l.passed l.start;
   so_far : (olds : List (List ℕ)) → Has olds l.self → AreMentionsBefore olds l.file l.mentions.items l.start 0;
 }
 
-abbrev pub decreases-loop-start : goal.decreases-loop-start
-decreases-loop-start l = length l.file.text.now - l.start
+abbrev pub decreases-loop-end : goal.decreases-loop-end
+decreases-loop-end l = length l.file.text.now - l.start

@@ -1,7 +1,8 @@
 -- Each turn tries the span that is a byte longer, until it would have one byte too many, or the text ends.
-use Rattle.std.proofs.Common.{◌+◌, arith}
+use Rattle.std.proofs.Common.{◌+◌, get_or, ap, arith, sym, ◌∙◌}
+use Rattle.relmove_mentions.specs.Endings.{next_ending}
 use Rattle.relmove_mentions.proofs.MentionsLemmas.{AreMentionsBefore-begin, AreMentionsBefore-next, ends-before_other}
-use Rattle.relmove_mentions.proofs.SpansLemmas.{others_in-left, others_in-none}
+use Rattle.relmove_mentions.proofs.SpansLemmas.{ending_of-next, ending_of-none, others_in-left, others_in-none}
 use Rattle.relmove_mentions.proofs.old_names.OldNames.push_bounded.Goals as goal
 
 pub loop-end-init : goal.loop-end-init
@@ -9,6 +10,7 @@ loop-end-init c = record {
   order = omega arith;
   within = c.requires.within;
   others = omega (arith, others_in-none c.args.file.text.now c.args.start, c.most_others-left.ensures);
+  ending = c.none-ending.ensures ∙ sym (ending_of-none c.args.file.text.now c.args.start);
   so_far = λ olds has before. AreMentionsBefore-begin olds c.args.file c.args.mentions.now.items c.args.start before;
 }
 
@@ -30,6 +32,12 @@ push_at-requires-clause-few c =
           c.args.self.now.most_others inv.order c.loop-end-test.true inv.others c.in-Some.ensures.some,
     )
 
+pub push_at-requires-clause-ending : goal.push_at-requires-clause-ending
+push_at-requires-clause-ending c =
+    let inv = c.loop-end.invariant in
+    c.then-ending.ensures ∙ ap (λ e. next_ending e (get_or c.args.file.text.now c.loop-end.end 0)) inv.ending
+    ∙ sym (ending_of-next c.args.file.text.now c.args.start c.loop-end.end inv.order c.loop-end-test.true)
+
 pub loop-end-preserved : goal.loop-end-preserved
 loop-end-preserved c =
     let inv = c.loop-end.invariant in
@@ -39,6 +47,9 @@ loop-end-preserved c =
       others =
           others_in-left c.args.file.text.now c.args.start c.loop-end.end c.loop-end.left c.in-Some.more
           c.args.self.now.most_others inv.order c.loop-end-test.true inv.others c.in-Some.ensures.some;
+      ending =
+          c.then-ending.ensures ∙ ap (λ e. next_ending e (get_or c.args.file.text.now c.loop-end.end 0)) inv.ending
+          ∙ sym (ending_of-next c.args.file.text.now c.args.start c.loop-end.end inv.order c.loop-end-test.true);
       so_far = λ olds has before. c.in_ok-push_at.ensures olds has (inv.so_far olds has before);
     }
 

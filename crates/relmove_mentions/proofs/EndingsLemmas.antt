@@ -1,0 +1,307 @@
+-- What a text ends in is what its file name ends in.
+use Rattle.std.proofs.Common.{◌≡◌, ◌⊎◌, ℕ, zero, suc, cond, ◌+◌, ◌*◌, ◌<◌, ◌≤◌, Bool, true, false, ◌||◌, ◌&&◌, ◌==◌, List, [], ◌∷◌, ◌++◌, map, length, replicate, Some, None, inl, inr, refl, sym, ap, ◌∙◌, subst, true≢false, arith, bytes_eq, filter, length-append}
+use Rattle.std.specs.List.{AllByRecursion, fold, onto_first, slice_split}
+use Rattle.std.specs.Char.{digit_value, is_digit}
+use Rattle.std.specs.Prelude.{is_some}
+use Rattle.std.proofs.lemmas.Bool.{agree_below_at, and_parts, cases_Bool, cases_lt, cond-false, cond-true, eqb-true, le-ltb, ltb-true, or_left, or_parts, or_right}
+use Rattle.std.proofs.lemmas.List.{map-append}
+use Rattle.std.proofs.lemmas.List.Elements.{All-from_recursion, filter-append}
+use Rattle.std.proofs.lemmas.List.Splits.{length-slice_split, slice_split_none}
+use Rattle.std.proofs.lemmas.List.Sums.{fold-append}
+use Rattle.std.proofs.lemmas.Option.{same_Some}
+use Rattle.std.proofs.lemmas.Slice.Eq.{bytes_eq-Decides}
+use Rattle.percent_encoding.specs.Percent.{is_escape, percent_decode, percent_sign}
+use Rattle.relative_path.specs.Steps.{Step, classed, components, cur, is_not_empty, is_slash, name, pieces, slash, step_text, up}
+use Rattle.relative_path.specs.Editing.{kept}
+use Rattle.relative_path.specs.Naming.{file_name_of, last_name}
+use Rattle.relative_path.proofs.ForCallers.{components-trailing_slash, last_name-name, last_name-split}
+use Rattle.relmove_mentions.specs.Endings.{ending_of, next_ending, no_ending, with_path_byte}
+use Rattle.relmove_mentions.specs.Spans.{is_other_byte}
+use Rattle.relmove_mentions.specs.declared.endings.Ending.{Ending}
+
+-- ---- one more byte
+
+next-slash : (e : Ending) (b : ℕ) → is_slash b ≡ true
+    → next_ending e b ≡ record { hash = e.hash; encoded = e.encoded; slashed = true }
+next-slash e b is = cond-true (is_slash b) _ _ is
+
+pub next-other : (e : Ending) (b : ℕ) → is_slash b ≡ false → is_other_byte b ≡ true → next_ending e b ≡ no_ending
+next-other e b plain is = cond-false (is_slash b) _ _ plain ∙ cond-true (is_other_byte b) _ _ is
+
+next-path : (e : Ending) (b : ℕ) → is_slash b ≡ false → is_other_byte b ≡ false
+    → next_ending e b ≡ with_path_byte (cond e.slashed no_ending e) b
+next-path e b plain is = cond-false (is_slash b) _ _ plain ∙ cond-false (is_other_byte b) _ _ is
+
+-- an other byte is no slash
+pub other-not_slash : (b : ℕ) → is_other_byte b ≡ true → is_slash b ≡ false
+other-not_slash b other = elim (cases_Bool (is_slash b)) [
+  | inl is ↦
+      let same : b ≡ slash = eqb-true b slash is in
+      absurd (true≢false (sym (subst (λ c. is_other_byte c ≡ true) same other)))
+  | inr plain ↦ plain
+]
+
+-- after slashes, a byte begins a name
+restart : (e : Ending) (b : ℕ) → e.slashed ≡ true → is_slash b ≡ false → next_ending e b ≡ next_ending no_ending b
+restart e b slashed plain = elim (cases_Bool (is_other_byte b)) [
+  | inl other ↦ next-other e b plain other ∙ sym (next-other no_ending b plain other)
+  | inr path ↦
+      next-path e b plain path ∙ ap (λ f. with_path_byte f b) (cond-true e.slashed no_ending e slashed)
+      ∙ sym (next-path no_ending b plain path)
+]
+
+-- ---- the last component
+
+-- the last of some steps
+abbrev last_step : Step → List Step → Step
+last_step c [] = c
+last_step c (d ∷ ds) = last_step d ds
+
+last_step-append : (c : Step) (cs : List Step) (d : Step) (ds : List Step) → last_step c (cs ++ d ∷ ds) ≡ last_step d ds
+last_step-append c [] d ds = refl
+last_step-append c (e ∷ cs) d ds = last_step-append e cs d ds
+
+last_step-curs : (c : Step) (k : ℕ) → (last_step c (replicate k cur) ≡ c) ⊎ (last_step c (replicate k cur) ≡ cur)
+last_step-curs c zero = inl refl
+last_step-curs c (suc k) = elim (last_step-curs cur k) [
+  | inl is ↦ inr is
+  | inr is ↦ inr is
+]
+
+abbrev IsUp : Step → Bool
+IsUp cur = false
+IsUp up = true
+IsUp (name n) = false
+
+-- a list that ends in `..` has no file name
+last_name-up : (cs : List Step) (n : List ℕ) → last_name (cs ++ up ∷ []) ≡ Some n → ⊥
+last_name-up cs n is =
+    let (k, joined) = last_name-split (cs ++ up ∷ []) n is in
+    let here : last_step cur (cs ++ up ∷ []) ≡ up = last_step-append cur cs up [] in
+    let there : last_step cur (cs ++ up ∷ []) ≡ last_step (name n) (replicate k cur) =
+    ap (last_step cur) joined ∙ last_step-append cur (kept (cs ++ up ∷ [])) (name n) (replicate k cur) in
+    elim (last_step-curs (name n) k) [
+      | inl same ↦ true≢false (ap IsUp (sym here ∙ there ∙ same))
+      | inr same ↦ true≢false (ap IsUp (sym here ∙ there ∙ same))
+    ]
+
+-- a piece of a text that comes last: it is `.`, or it is the file name
+last_name-piece : (cs : List Step) (p n : List ℕ) → last_name (cs ++ classed p ∷ []) ≡ Some n
+    → (p ≡ step_text cur) ⊎ (p ≡ n)
+last_name-piece cs p n is = of (bytes_eq p (step_text cur)) (bytes_eq p (step_text up)) (bytes_eq-Decides p (step_text cur)).0 is where
+  of : (a b : Bool) → (a ≡ true → p ≡ step_text cur) → last_name (cs ++ cond a cur (cond b up (name p)) ∷ []) ≡ Some n
+      → (p ≡ step_text cur) ⊎ (p ≡ n)
+  of true b dot is = inl (dot refl)
+  of false true dot is = absurd (last_name-up cs n is)
+  of false false dot is = inr (same_Some p n (sym (last_name-name cs p) ∙ is))
+
+-- ---- a text, cut at its last slash
+
+abbrev NoSlash : List ℕ → Type 0
+NoSlash text = AllByRecursion (λ b. is_slash b ≡ false) text
+
+-- the text has no slash, or this is what comes before and after its last slash
+abbrev LastCut : List ℕ → Type 0
+LastCut text = NoSlash text ⊎ ((front : List ℕ) × (rest : List ℕ) × (text ≡ front ++ slash ∷ rest) × NoSlash rest)
+
+last_cut : (text : List ℕ) → LastCut text
+last_cut [] = inl tt
+last_cut (b ∷ text) = elim (last_cut text) [
+  | inr (front, rest, is, none) ↦ inr (b ∷ front, rest, ap (λ t. b ∷ t) is, none)
+  | inl none ↦ elim (cases_Bool (is_slash b)) [
+    | inl slashed ↦ inr ([], text, ap (λ c. c ∷ text) (eqb-true b slash slashed), none)
+    | inr plain ↦ inl (plain, none)
+  ]
+]
+
+onto_first-append : (b : ℕ) (ps qs : List (List ℕ)) → 0 < length ps → onto_first b (ps ++ qs) ≡ onto_first b ps ++ qs
+onto_first-append b [] qs some = absurd (omega arith)
+onto_first-append b (p ∷ ps) qs some = refl
+
+slice_split-append : (xs ys : List ℕ)
+    → slice_split is_slash (xs ++ slash ∷ ys) ≡ slice_split is_slash xs ++ slice_split is_slash ys
+slice_split-append [] ys = refl
+slice_split-append (x ∷ xs) ys =
+    let later = slice_split-append xs ys in
+    let some : 0 < length (slice_split is_slash xs) = omega (arith, length-slice_split is_slash xs) in
+    let joined = onto_first-append x (slice_split is_slash xs) (slice_split is_slash ys) some in
+    elim (cases_Bool (is_slash x)) [
+      | inl e ↦ rw (cond-true (is_slash x) _ _ e, cond-true (is_slash x) _ _ e) (ap (λ ps. [] ∷ ps) later)
+      | inr e ↦ rw (cond-false (is_slash x) _ _ e, cond-false (is_slash x) _ _ e) (ap (onto_first x) later ∙ joined)
+    ]
+
+components-cut : (xs ys : List ℕ) → components (xs ++ slash ∷ ys) ≡ components xs ++ components ys
+unfolding components pieces
+components-cut xs ys =
+    ap (λ ps. map classed (filter is_not_empty ps)) (slice_split-append xs ys)
+    ∙ ap (map classed) (filter-append is_not_empty (slice_split is_slash xs) (slice_split is_slash ys))
+    ∙ map-append classed (pieces xs) (pieces ys)
+
+components-empty : components [] ≡ []
+unfolding components pieces
+components-empty = refl
+
+components-piece : (b : ℕ) (bs : List ℕ) → NoSlash (b ∷ bs) → components (b ∷ bs) ≡ classed (b ∷ bs) ∷ []
+unfolding components pieces
+components-piece b bs none =
+    rw (slice_split_none is_slash (b ∷ bs) (All-from_recursion (λ x. is_slash x ≡ false) (b ∷ bs) none)) refl
+
+-- ---- the file name of a text
+
+-- the text ends as the name does, or in `.`
+abbrev pub EndsAs : List ℕ → List ℕ → Type 0
+EndsAs text n = ((ending_of text).hash ≡ 46) ⊎ ((ending_of text).hash ≡ (ending_of n).hash)
+
+ends-piece : (cs : List Step) (p n : List ℕ) → last_name (cs ++ classed p ∷ []) ≡ Some n → EndsAs p n
+ends-piece cs p n is = elim (last_name-piece cs p n is) [
+  | inl dot ↦ inl (ap (λ t. (ending_of t).hash) dot)
+  | inr same ↦ inr (ap (λ t. (ending_of t).hash) same)
+]
+
+none_some : {X : Type 0} {x : X} → None ≡ Some x → ⊥
+none_some is = true≢false (sym (ap is_some is))
+
+ends-whole : (text n : List ℕ) → NoSlash text → file_name_of text ≡ Some n → EndsAs text n
+ends-whole [] n none is = absurd (none_some (sym (ap last_name components-empty) ∙ is))
+ends-whole (b ∷ bs) n none is = ends-piece [] (b ∷ bs) n (sym (ap last_name (components-piece b bs none)) ∙ is)
+
+-- what comes after a slash ends as by itself
+ends-after : (front : List ℕ) (b : ℕ) (bs : List ℕ) → is_slash b ≡ false
+    → ending_of (front ++ slash ∷ b ∷ bs) ≡ ending_of (b ∷ bs)
+ends-after front b bs plain =
+    fold-append next_ending no_ending front (slash ∷ b ∷ bs)
+    ∙ ap (λ e. fold next_ending e bs) (restart (next_ending (ending_of front) slash) b refl plain)
+
+ends-slash : (front : List ℕ) → (ending_of (front ++ slash ∷ [])).hash ≡ (ending_of front).hash
+ends-slash front = ap (λ (e : Ending). e.hash) (fold-append next_ending no_ending front (slash ∷ []))
+
+ends-cut : (front rest n : List ℕ) → (file_name_of front ≡ Some n → EndsAs front n) → NoSlash rest
+    → file_name_of (front ++ slash ∷ rest) ≡ Some n → EndsAs (front ++ slash ∷ rest) n
+ends-cut front [] n before none is =
+    subst (λ h. (h ≡ 46) ⊎ (h ≡ (ending_of n).hash)) (sym (ends-slash front))
+    (before (sym (ap last_name (components-trailing_slash front)) ∙ is))
+ends-cut front (b ∷ bs) n before none is =
+    let cs = components front in
+    let joined : components (front ++ slash ∷ b ∷ bs) ≡ cs ++ classed (b ∷ bs) ∷ [] =
+    components-cut front (b ∷ bs) ∙ ap (λ ds. cs ++ ds) (components-piece b bs none) in
+    subst (λ (e : Ending). (e.hash ≡ 46) ⊎ (e.hash ≡ (ending_of n).hash)) (sym (ends-after front b bs none.0))
+    (ends-piece cs (b ∷ bs) n (sym (ap last_name joined) ∙ is))
+
+ends-within : (k : ℕ) (text n : List ℕ) → length text ≤ k → file_name_of text ≡ Some n → EndsAs text n
+ends-within zero [] n short is = ends-whole [] n tt is
+ends-within zero (b ∷ bs) n short is = absurd (omega (arith, short))
+ends-within (suc k) text n short is = elim (last_cut text) [
+  | inl none ↦ ends-whole text n none is
+  | inr (front, rest, joined, none) ↦
+      let before : length front ≤ k = omega (arith, short, ap length joined, length-append front (slash ∷ rest)) in
+      subst (λ t. EndsAs t n) (sym joined)
+      (ends-cut front rest n (λ named. ends-within k front n before named) none (subst (λ t. file_name_of t ≡ Some n) joined is))
+]
+
+-- a text ends as its file name does, or in `.`
+pub ends-name : (text n : List ℕ) → file_name_of text ≡ Some n → EndsAs text n
+ends-name text n is = ends-within (length text) text n (omega arith) is
+
+-- ---- a text that is decoded
+
+-- both are equal, or the first has a percent sign and goes on at least as long
+abbrev Follows : Ending → Ending → Type 0
+Follows e f = (e ≡ f) ⊎ ((e.encoded ≡ true) × (e.slashed ≡ true → f.slashed ≡ true))
+
+-- it has a percent sign, and no slash comes after it
+abbrev IsEncoded : Ending → Type 0
+IsEncoded e = (e.encoded ≡ true) × (e.slashed ≡ false)
+
+Follows-encoded : (e f : Ending) → IsEncoded e → Follows e f
+Follows-encoded e f (encoded, plain) = inr (encoded, λ is. absurd (true≢false (sym is ∙ plain)))
+
+encoded-next : (e : Ending) (b : ℕ) → is_slash b ≡ false → is_other_byte b ≡ false → IsEncoded e
+    → IsEncoded (next_ending e b)
+encoded-next e b plain path (encoded, goes_on) =
+    let is : next_ending e b ≡ with_path_byte e b = next-path e b plain path
+    ∙ ap (λ f. with_path_byte f b) (cond-false e.slashed no_ending e goes_on) in (
+      ap (λ (g : Ending). g.encoded) is ∙ or_left e.encoded (b == percent_sign) encoded,
+      ap (λ (g : Ending). g.slashed) is,
+    )
+
+Follows-next : (e f : Ending) (b : ℕ) → Follows e f → Follows (next_ending e b) (next_ending f b)
+Follows-next e f b (inl same) = inl (ap (λ g. next_ending g b) same)
+Follows-next e f b (inr (encoded, goes)) = elim (cases_Bool (is_slash b)) [
+  | inl is ↦
+      inr (ap (λ (g : Ending). g.encoded) (next-slash e b is) ∙ encoded, λ _. ap (λ (g : Ending). g.slashed) (next-slash f b is))
+  | inr plain ↦ elim (cases_Bool (is_other_byte b)) [
+    | inl other ↦ inl (next-other e b plain other ∙ sym (next-other f b plain other))
+    | inr path ↦ elim (cases_Bool e.slashed) [
+      | inl slashed ↦ inl (restart e b slashed plain ∙ sym (restart f b (goes slashed) plain))
+      | inr goes_on ↦ Follows-encoded (next_ending e b) (next_ending f b) (encoded-next e b plain path (encoded, goes_on))
+    ]
+  ]
+]
+
+-- a hexadecimal digit is a path byte, and no slash
+abbrev ends_a_name : ℕ → Bool
+ends_a_name b = is_digit b 16 && (is_slash b || is_other_byte b)
+
+digit_value-large : (b : ℕ) → 128 ≤ b → digit_value b ≡ 36
+digit_value-large b more = grind (arith, le-ltb)
+
+digit-small : (b : ℕ) → is_digit b 16 ≡ true → b < 128
+digit-small b is = elim (cases_lt b 128) [
+  | inl less ↦ less
+  | inr more ↦ absurd (omega (arith, ltb-true (digit_value b) 16 is, digit_value-large b more))
+]
+
+digit-goes_on : (b : ℕ) → is_digit b 16 ≡ true → (is_slash b ≡ false) × (is_other_byte b ≡ false)
+digit-goes_on b is =
+    let none = agree_below_at ends_a_name (λ c. false) 128 b refl (digit-small b is) in
+    let plain : (is_slash b || is_other_byte b) ≡ false = sym (ap (λ t. t && (is_slash b || is_other_byte b)) is) ∙ none in
+    or_parts (is_slash b) (is_other_byte b) plain
+
+encoded-digit : (e : Ending) (b : ℕ) → is_digit b 16 ≡ true → IsEncoded e → IsEncoded (next_ending e b)
+encoded-digit e b is encoded =
+    let (plain, path) = digit-goes_on b is in encoded-next e b plain path encoded
+
+encoded-percent : (e : Ending) → IsEncoded (next_ending e percent_sign)
+encoded-percent e = elim (cases_Bool e.slashed) [
+  | inl slashed ↦ subst IsEncoded (sym (restart e percent_sign slashed refl)) (refl, refl)
+  | inr goes_on ↦
+      let is : next_ending e percent_sign ≡ with_path_byte e percent_sign =
+      ap (λ f. with_path_byte f percent_sign) (cond-false e.slashed no_ending e goes_on) in
+      subst IsEncoded (sym is) (or_right e.encoded true refl, refl)
+]
+
+Follows-escape : (e f : Ending) (b high low v : ℕ) → is_escape b high low ≡ true
+    → Follows (next_ending (next_ending (next_ending e b) high) low) (next_ending f v)
+Follows-escape e f b high low v is =
+    let (first, other) = and_parts (b == percent_sign && is_digit high 16) (is_digit low 16) is in
+    let (begins, one) = and_parts (b == percent_sign) (is_digit high 16) first in
+    let begun : IsEncoded (next_ending e b) =
+    subst (λ c. IsEncoded (next_ending e c)) (sym (eqb-true b percent_sign begins)) (encoded-percent e) in
+    Follows-encoded _ (next_ending f v) (encoded-digit _ low other (encoded-digit _ high one begun))
+
+follows : (bytes : List ℕ) (e f : Ending) → Follows e f
+    → Follows (fold next_ending e bytes) (fold next_ending f (percent_decode bytes))
+unfolding percent_decode
+follows [] e f are = are
+follows (b ∷ []) e f are = Follows-next e f b are
+follows (b ∷ c ∷ []) e f are = Follows-next (next_ending e b) (next_ending f b) c (Follows-next e f b are)
+follows (b ∷ high ∷ low ∷ rest) e f are =
+    of (is_escape b high low) refl
+    (λ g h both. follows rest g h both) (λ g h both. follows (high ∷ low ∷ rest) g h both) where
+      of : (t : Bool) → is_escape b high low ≡ t
+          → ((g h : Ending) → Follows g h → Follows (fold next_ending g rest) (fold next_ending h (percent_decode rest)))
+          → ((g h : Ending) → Follows g h
+          → Follows (fold next_ending g (high ∷ low ∷ rest)) (fold next_ending h (percent_decode (high ∷ low ∷ rest))))
+          → Follows (fold next_ending e (b ∷ high ∷ low ∷ rest)) (fold next_ending f
+          (cond t ((16 * digit_value high + digit_value low) ∷ percent_decode rest) (b ∷ percent_decode (high ∷ low ∷ rest))))
+      of true is after later =
+          let v = 16 * digit_value high + digit_value low in
+          after (next_ending (next_ending (next_ending e b) high) low) (next_ending f v) (Follows-escape e f b high low v is)
+      of false is after later = later (next_ending e b) (next_ending f b) (Follows-next e f b are)
+
+-- bytes end as what they are decoded to, or with a percent sign
+pub ends-decoded : (bytes : List ℕ) → (ending_of bytes ≡ ending_of (percent_decode bytes)) ⊎ ((ending_of bytes).encoded ≡ true)
+ends-decoded bytes = elim (follows bytes no_ending no_ending (inl refl)) [
+  | inl same ↦ inl same
+  | inr (encoded, goes) ↦ inr encoded
+]

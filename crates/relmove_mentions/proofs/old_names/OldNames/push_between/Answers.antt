@@ -1,0 +1,24 @@
+-- Each turn appends the mentions that begin at the next offset.
+use Rattle.std.proofs.Common.{◌≡◌, arith, subst}
+use Rattle.relmove_mentions.specs.Mentions.{AreMentionsBefore}
+use Rattle.relmove_mentions.proofs.old_names.OldNames.push_between.Goals as goal
+
+pub loop-start-init : goal.loop-start-init
+loop-start-init c = record {
+  before = c.requires.order;
+  passed = c.requires.passed;
+  so_far = λ olds has before. before;
+}
+
+pub loop-start-preserved : goal.loop-start-preserved
+loop-start-preserved c = record {
+  before = omega (arith, c.loop-start-test.true);
+  passed = λ span later. c.count_passed-passed.ensures span (omega (arith, later));
+  so_far = λ olds has before. c.in_ok-push_from.ensures olds has (c.loop-start.invariant.so_far olds has before);
+}
+
+pub returns : goal.returns
+returns c = λ olds has before.
+    let end : c.loop-start.start ≡ c.args.span.end = omega (arith, c.loop-start.invariant.before, c.loop-start-test.false) in
+    subst (λ at. AreMentionsBefore olds c.args.file c.loop-start.mentions.items at 0) end
+    (c.loop-start.invariant.so_far olds has before)
