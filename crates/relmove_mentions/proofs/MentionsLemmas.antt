@@ -160,10 +160,10 @@ ends olds set file span old has is =
 -- up to the end of a mention, the bytes from an offset on end as the mention
 pub ends-from : (olds : List (List ℕ)) (set : OldNames) (file : FileText) (text : List ℕ) (span : TextSpan) (old : List ℕ)
     (start : ℕ) → Has olds set → file.text.now ≡ text → IsMention olds file span old → start ≤ span.start
-    → (may_end set (ending_of (take (span.end - start) (drop start text))) && is_bounded_after text span.end) ≡ true
+    → (is_bounded_after text span.end && may_end set (ending_of (take (span.end - start) (drop start text)))) ≡ true
 ends-from olds set file text span old start has of is later =
-    subst (λ t. (may_end set (ending_of (take (span.end - start) (drop start t))) && is_bounded_after t span.end) ≡ true) of
-    (and_from _ _ (ap (may_end set) same ∙ end) is.bounded.after) where
+    subst (λ t. (is_bounded_after t span.end && may_end set (ending_of (take (span.end - start) (drop start t)))) ≡ true) of
+    (and_from _ _ is.bounded.after (ap (may_end set) same ∙ end)) where
       same : ending_of (take (span.end - start) (drop start file.text.now)) ≡ ending_of (span_bytes file.text.now span)
       same =
           ending_of-after file.text.now start span.start span.end later (omega (arith, is.bounded.order)) is.bounded.within
@@ -176,14 +176,14 @@ ends-from olds set file text span old start has of is later =
 pub ends-later : (olds : List (List ℕ)) (set : OldNames) (file : FileText) (text : List ℕ) (span : TextSpan) (old : List ℕ)
     (start end : ℕ) → Has olds set → file.text.now ≡ text → IsMention olds file span old → start ≤ span.start
     → end ≤ span.end
-    → (may_end set (ending_of (take (end - start) (drop start text))) && is_bounded_after text end) ≡ false
+    → (is_bounded_after text end && may_end set (ending_of (take (end - start) (drop start text)))) ≡ false
     → end < span.end
 ends-later olds set file text span old start end has of is later order none = elim (cases_lt end span.end) [
   | inl less ↦ less
   | inr more ↦
       let same : span.end ≡ end = omega (arith, order, more) in
       absurd (true≢false (sym (subst
-      (λ e. (may_end set (ending_of (take (e - start) (drop start text))) && is_bounded_after text e) ≡ true) same
+      (λ e. (is_bounded_after text e && may_end set (ending_of (take (e - start) (drop start text)))) ≡ true) same
       (ends-from olds set file text span old start has of is later)) ∙ none))
 ]
 

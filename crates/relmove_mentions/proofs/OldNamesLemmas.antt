@@ -1,9 +1,9 @@
 -- The names that a set of old paths has, and what it finds by them.
-use Rattle.std.proofs.Common.{◌≡◌, ◌⊎◌, ℕ, ◌<◌, Bool, true, false, List, [], ◌∷◌, ◌++◌, map, Option, Some, None, IsSome, unwrap_or, cond, inl, inr, refl, sym, ap, ◌∙◌, subst, true≢false, arith, append_assoc, codes, get_or, length, max, not, ◌||◌, take, ◌+◌, ◌≤◌}
+use Rattle.std.proofs.Common.{◌≡◌, ◌⊎◌, ℕ, ◌<◌, Bool, true, false, List, [], ◌∷◌, ◌++◌, map, Option, Some, None, IsSome, unwrap_or, cond, inl, inr, refl, sym, ap, ◌∙◌, subst, true≢false, arith, append_assoc, codes, get_or, length, max, not, ◌||◌, take, ◌+◌, ◌*◌, ◌%◌, ◌^◌, ◌≤◌}
 use Rattle.std.specs.BTreeMap.{get_by_text}
 use Rattle.std.specs.List.{Contains}
 use Rattle.std.specs.Map.{update}
-use Rattle.std.specs.Option.{option_and_then, option_map, option_map_or}
+use Rattle.std.specs.Option.{option_map}
 use Rattle.std.specs.Str.{bytes_eq}
 use Rattle.std.proofs.lemmas.List.{flat_map_more, length-map, map-append, map_more, take_all}
 use Rattle.std.proofs.Math.ListN.{get_or-map}
@@ -11,24 +11,26 @@ use Rattle.std.proofs.lemmas.List.Sums.{fold-append}
 use Rattle.std.proofs.lemmas.List.Elements.{Contains-append_left, Contains-append_right, Contains-get_or, Contains-push_cases}
 use Rattle.std.proofs.lemmas.Option.{same_Some}
 use Rattle.std.proofs.lemmas.Slice.Eq.{bytes_eq-Decides}
-use Rattle.relative_path.specs.Steps.{Step, classed, components, cur, dot, name as named, slash, step_text, up}
+use Rattle.relative_path.specs.Steps.{Step, classed, components, cur, dot, name as named, step_text, up}
 use Rattle.relative_path.specs.Editing.{kept}
 use Rattle.relative_path.specs.Naming.{file_name_of, last_name, stem_of}
 use Rattle.relative_path.specs.Walk.{IsSame}
 use Rattle.relative_path.specs.Normalizing.{IsNormal, IsNormalTextOf}
-use Rattle.relative_path.specs.RelativePath.{path_components}
+use Rattle.relative_path.specs.RelativePath.{path_components, path_text}
 use Rattle.relative_path.specs.declared.path.RelativePath.{RelativePath}
 use Rattle.relative_path.proofs.ForCallers.{IsNormal-push_name, IsNormalForm-some, IsSame-append_left, IsSame-append_right, IsSame-last_name, IsSame-sym, IsSame-trans, kept-name, last_name-IsNormalTextOf, last_name-name}
 use Rattle.relative_path_places.proofs.ForCallers.{IsNormalTextOf-same, normal_unique}
 use Rattle.relative_path_places.specs.Views.{view_text}
 use Rattle.relative_path_places.specs.declared.normal_view.NormalView.{NormalView}
 use Rattle.relmove_mentions.proofs.FirstLemmas.{IsFirst-Contains, IsFirst-append, IsFirst-append_cases, IsFirst-holds, IsFirst-push, first, first_or_rest, rest}
-use Rattle.relmove_mentions.specs.Endings.{hash_of, last_two_of}
+use Rattle.relmove_mentions.specs.Bases.{base_components, base_text}
+use Rattle.relmove_mentions.specs.NameHashes.{hash_of, last_hash, last_two_hash, name_alone, two_hash}
+use Rattle.relmove_mentions.specs.declared.bases.Base.{Base}
 use Rattle.relmove_mentions.specs.First.{IsFirst}
 use Rattle.relmove_mentions.specs.Hashes.{may_have}
-use Rattle.relmove_mentions.specs.Names.{bare_names, directory_names, index_names, is_bare_name, is_index_page, is_page, most_others, names_of, page_names}
+use Rattle.relmove_mentions.specs.Names.{bare_names, directory_names, has_steps, index_names, is_bare_name, is_index_page, is_page, most_others, names_of, page_names}
 use Rattle.relmove_mentions.specs.Spans.{others_in}
-use Rattle.relmove_mentions.specs.OldNames.{Finds, Has, HasLastName, HasText, Lists, PathName, all_names, may_have_last_two, with_names}
+use Rattle.relmove_mentions.specs.OldNames.{Finds, Has, HasLastName, HasText, Lists, PathName, all_names, may_have_two, with_names}
 use Rattle.relmove_mentions.specs.Written.{LeadsFrom, LeadsToName, LeadsToPath, StandsFor}
 use Rattle.relmove_mentions.specs.declared.file_text.FileText.{FileText}
 use Rattle.relmove_mentions.specs.declared.old_names.OldNames.{OldNames}
@@ -48,7 +50,7 @@ HasLast old new text = (n : List ℕ) → (file_name_of text ≡ Some n → HasL
 -- the set has the last two names of the text, and those that it had
 abbrev pub HasLastTwo : OldNames → OldNames → List ℕ → Type 0
 HasLastTwo old new text = (hash : ℕ)
-    → (last_two_of (components text) ≡ Some hash → may_have new.last_twos hash ≡ true)
+    → (last_two_hash (components text) ≡ Some hash → may_have new.last_twos hash ≡ true)
     × (may_have old.last_twos hash ≡ true → may_have new.last_twos hash ≡ true)
 
 -- the last name of a list that leads to a name is that of the name's normal text
@@ -62,16 +64,16 @@ last_name-normal steps front n text normal same =
 
 -- the last two names of a list
 two_names : (cs : List Step) (d n : List ℕ)
-    → last_two_of ((cs ++ named d ∷ []) ++ named n ∷ []) ≡ Some (hash_of (d ++ slash ∷ n))
+    → last_two_hash ((cs ++ named d ∷ []) ++ named n ∷ []) ≡ two_hash (Some (hash_of d)) (Some (hash_of n))
 two_names cs d n =
-    ap (option_and_then (λ m. option_map (λ e. hash_of (e ++ slash ∷ m))
-    (last_name (kept ((cs ++ named d ∷ []) ++ named n ∷ []))))) (last_name-name (cs ++ named d ∷ []) n)
-    ∙ ap (λ ds. option_map (λ e. hash_of (e ++ slash ∷ n)) (last_name ds)) (kept-name (cs ++ named d ∷ []) n)
-    ∙ ap (option_map (λ e. hash_of (e ++ slash ∷ n))) (last_name-name cs d)
+    ap (λ m. two_hash (last_hash (kept ((cs ++ named d ∷ []) ++ named n ∷ []))) (option_map hash_of m))
+    (last_name-name (cs ++ named d ∷ []) n)
+    ∙ ap (λ ds. two_hash (last_hash ds) (Some (hash_of n))) (kept-name (cs ++ named d ∷ []) n)
+    ∙ ap (λ m. two_hash (option_map hash_of m) (Some (hash_of n))) (last_name-name cs d)
 
 -- the same for the last two names
 last_two-normal : (steps front : List Step) (d n text : List ℕ) → IsNormalTextOf steps text
-    → IsSame (front ++ named d ∷ named n ∷ []) steps → last_two_of (components text) ≡ Some (hash_of (d ++ slash ∷ n))
+    → IsSame (front ++ named d ∷ named n ∷ []) steps → last_two_hash (components text) ≡ two_hash (Some (hash_of d)) (Some (hash_of n))
 last_two-normal steps front d n text normal same =
     let (ds, form) = IsNormalForm-some front in
     let two : List Step = (ds ++ named d ∷ []) ++ named n ∷ [] in
@@ -83,7 +85,7 @@ last_two-normal steps front d n text normal same =
     (IsSame-append_right (named d ∷ named n ∷ []) form.same))) (IsSame-trans same normal.same) in
     let is : components text ≡ two =
     sym (normal_unique two (components text) is_normal normal.normal_text.normal leads) in
-    ap last_two_of is ∙ two_names ds d n
+    ap last_two_hash is ∙ two_names ds d n
 
 pub Lists-insert : (names : List PathName) (path : NormalView) (name : List Step) (old new : OldNames)
     (text : List ℕ) → IsNormalTextOf name text → IsInserted old new text path → HasLast old new text
@@ -157,14 +159,16 @@ Lists-insert names path name old new text normal inserted has_last has_two lists
       ]
 
       last_two : (o : List ℕ) (steps front : List Step) (d n : List ℕ) → Contains more (o, steps)
-          → IsSame (front ++ named d ∷ named n ∷ []) steps → may_have new.last_twos (hash_of (d ++ slash ∷ n)) ≡ true
-      last_two o steps front d n has same = elim (Contains-push_cases names (view_text path, name) (o, steps) has) [
-        | inl before ↦ (has_two (hash_of (d ++ slash ∷ n))).1 (lists.last_two o steps front d n before same)
-        | inr is ↦
-            let of_name : IsSame (front ++ named d ∷ named n ∷ []) name =
-            subst (IsSame (front ++ named d ∷ named n ∷ [])) (sym (ap (λ pair. pair.1) is)) same in
-            (has_two (hash_of (d ++ slash ∷ n))).0 (last_two-normal name front d n text normal of_name)
-      ]
+          → IsSame (front ++ named d ∷ named n ∷ []) steps → may_have_two new (two_hash (Some (hash_of d)) (Some (hash_of n))) ≡ true
+      last_two o steps front d n has same =
+          let two = (hash_of d * 1000003 % 2 ^ 64 + hash_of n) % 2 ^ 64 in
+          elim (Contains-push_cases names (view_text path, name) (o, steps) has) [
+            | inl before ↦ (has_two two).1 (lists.last_two o steps front d n before same)
+            | inr is ↦
+                let of_name : IsSame (front ++ named d ∷ named n ∷ []) name =
+                subst (IsSame (front ++ named d ∷ named n ∷ [])) (sym (ap (λ pair. pair.1) is)) same in
+                (has_two two).0 (last_two-normal name front d n text normal of_name)
+          ]
 
 -- ---- each name of each path
 
@@ -407,32 +411,71 @@ StandsFor-last olds set file text n old has is_old is stands =
     has.lists.last o steps (front ++ kept (components text)) n listed
     (subst (λ cs. IsSame cs steps) (sym (append_assoc front (kept (components text)) (named n ∷ []))) same))
 
+-- a list that ends in a name after a list with a last name
+IsSame-two : (cs front : List Step) (d n : List ℕ) → IsSame cs (front ++ named n ∷ []) → last_name front ≡ Some d
+    → IsSame cs (kept front ++ named d ∷ named n ∷ [])
+IsSame-two cs front d n same above =
+    subst (IsSame cs) (append_assoc (kept front) (named d ∷ []) (named n ∷ []))
+    (IsSame-trans same (IsSame-append_right (named n ∷ []) (IsSame-last_name front d above)))
+
 -- and its last two names
 pub StandsFor-last_two : (olds : List (List ℕ)) (set : OldNames) (file : FileText) (text old : List ℕ) → Has olds set
-    → Contains olds old → StandsFor olds file text old → may_have_last_two set (components text) ≡ true
+    → Contains olds old → StandsFor olds file text old → may_have_two set (last_two_hash (components text)) ≡ true
 StandsFor-last_two olds set file text old has is_old stands =
-    of (last_name cs) (last_name (kept cs)) refl refl where
+    of (last_name (kept cs)) (last_name cs) refl refl where
       cs : List Step
       cs = components text
 
-      of : (a b : Option (List ℕ)) → last_name cs ≡ a → last_name (kept cs) ≡ b
-          → option_map_or (may_have set.last_twos) (option_and_then (λ n. option_map (λ d. hash_of (d ++ slash ∷ n)) b) a) true
-          ≡ true
-      of None b is above = refl
-      of (Some n) None is above = refl
-      of (Some n) (Some d) is above =
+      of : (b a : Option (List ℕ)) → last_name (kept cs) ≡ b → last_name cs ≡ a
+          → may_have_two set (two_hash (option_map hash_of b) (option_map hash_of a)) ≡ true
+      of b None above is = refl
+      of None (Some n) above is = refl
+      of (Some d) (Some n) above is =
           let front = kept (kept cs) in
-          let two : front ++ named d ∷ named n ∷ [] ≡ (front ++ named d ∷ []) ++ named n ∷ [] =
-          sym (append_assoc front (named d ∷ []) (named n ∷ [])) in
-          let same : IsSame cs (front ++ named d ∷ named n ∷ []) =
-          subst (IsSame cs) (sym two)
-          (IsSame-trans (IsSame-last_name cs n is) (IsSame-append_right (named n ∷ []) (IsSame-last_name (kept cs) d above))) in
+          let same : IsSame cs (front ++ named d ∷ named n ∷ []) = IsSame-two cs (kept cs) d n (IsSame-last_name cs n is) above in
           StandsFor-ends olds file text (front ++ named d ∷ named n ∷ []) old _ is_old same stands
           (λ o steps base listed leads.
           has.lists.last_two o steps (base ++ front) d n listed
           (subst (λ ds. IsSame ds steps) (sym (append_assoc base front (named d ∷ named n ∷ []))) leads))
 
+has_steps-none : (cs : List Step) → has_steps cs ≡ false → cs ≡ []
+has_steps-none [] is = refl
+has_steps-none (c ∷ cs) is = absurd (true≢false is)
+
+-- and the last name of a directory, and then a name alone
+pub LeadsToPath-two : (olds : List (List ℕ)) (set : OldNames) (base cs : List Step) (old : List ℕ) → Has olds set
+    → Contains olds old → LeadsToPath olds (base ++ cs) old → may_have_two set (two_hash (last_hash base) (name_alone cs)) ≡ true
+LeadsToPath-two olds set base cs old has is_old first_leads =
+    of (last_name base) (has_steps (kept cs)) (last_name cs) refl refl refl where
+      of : (b : Option (List ℕ)) (more : Bool) (a : Option (List ℕ)) → last_name base ≡ b → has_steps (kept cs) ≡ more
+          → last_name cs ≡ a
+          → may_have_two set (two_hash (option_map hash_of b) (cond more None (option_map hash_of a))) ≡ true
+      of b true a above none is = refl
+      of b false None above none is = refl
+      of None false (Some n) above none is = refl
+      of (Some d) false (Some n) above none is =
+          let leads : LeadsToName (base ++ cs) old = IsFirst-holds (LeadsToName (base ++ cs)) olds old first_leads in
+          let alone : IsSame cs (named n ∷ []) =
+          subst (λ front. IsSame cs (front ++ named n ∷ [])) (has_steps-none (kept cs) none) (IsSame-last_name cs n is) in
+          let same : IsSame (base ++ cs) (kept base ++ named d ∷ named n ∷ []) =
+          IsSame-two (base ++ cs) base d n (IsSame-append_left base alone) above in
+          has.lists.last_two old leads.name (kept base) d n (all_names-Contains olds old leads.name is_old leads.is_name)
+          (IsSame-trans (IsSame-sym same) leads.same)
+
 -- ---- a search from one directory after another
+
+-- bases with the texts of directories have their components
+pub base_components-same : (bases : List Base) (paths : List RelativePath) → map base_text bases ≡ map path_text paths
+    → map base_components bases ≡ map path_components paths
+base_components-same bases paths same =
+    of_bases bases ∙ ap (map components) same ∙ sym (of_paths paths) where
+      of_bases : (list : List Base) → map base_components list ≡ map components (map base_text list)
+      of_bases [] = refl
+      of_bases (base ∷ list) = ap (λ rest. base_components base ∷ rest) (of_bases list)
+
+      of_paths : (list : List RelativePath) → map path_components list ≡ map components (map path_text list)
+      of_paths [] = refl
+      of_paths (path ∷ list) = ap (λ rest. path_components path ∷ rest) (of_paths list)
 
 -- from no directory a path leads
 pub LeadsFrom-nil : (olds : List (List ℕ)) (cs : List Step) (old : List ℕ) → LeadsFrom olds [] cs old → ⊥
@@ -441,27 +484,27 @@ LeadsFrom-nil olds cs old from = no from.is_one where
   no (k, within, is) = omega (arith, within)
 
 -- what it leads to from one of them, it leads to from them
-pub LeadsFrom-one : (olds : List (List ℕ)) (directories : List RelativePath) (i : ℕ) (none : RelativePath) (cs : List Step)
-    (old : List ℕ) → i < length directories → LeadsToPath olds (path_components (get_or directories i none) ++ cs) old
-    → LeadsFrom olds (map path_components directories) cs old
-LeadsFrom-one olds directories i none cs old within leads = record {
-  directory = path_components (get_or directories i none);
+pub LeadsFrom-one : (olds : List (List ℕ)) (bases : List Base) (i : ℕ) (none : Base) (cs : List Step)
+    (old : List ℕ) → i < length bases → LeadsToPath olds (base_components (get_or bases i none) ++ cs) old
+    → LeadsFrom olds (map base_components bases) cs old
+LeadsFrom-one olds bases i none cs old within leads = record {
+  directory = base_components (get_or bases i none);
   is_one =
-      subst (Contains (map path_components directories)) (get_or-map path_components directories i none)
-      (Contains-get_or (map path_components directories) i (path_components none)
-      (omega (arith, within, length-map directories path_components)));
+      subst (Contains (map base_components bases)) (get_or-map base_components bases i none)
+      (Contains-get_or (map base_components bases) i (base_components none)
+      (omega (arith, within, length-map bases base_components)));
   leads = leads;
 }
 
--- what it leads to from these directories and the next one, it leads to from these or from that
-pub LeadsFrom-next : (olds : List (List ℕ)) (directories : List RelativePath) (i : ℕ) (none : RelativePath) (cs : List Step)
-    (old : List ℕ) → i < length directories → LeadsFrom olds (map path_components (take (i + 1) directories)) cs old
-    → LeadsFrom olds (map path_components (take i directories)) cs old
-    ⊎ LeadsToPath olds (path_components (get_or directories i none) ++ cs) old
-LeadsFrom-next olds directories i none cs old within from =
-    elim (Contains-push_cases (map path_components (take i directories)) (path_components (get_or directories i none))
+-- what it leads to from these bases and the next one, it leads to from these or from that
+pub LeadsFrom-next : (olds : List (List ℕ)) (bases : List Base) (i : ℕ) (none : Base) (cs : List Step)
+    (old : List ℕ) → i < length bases → LeadsFrom olds (map base_components (take (i + 1) bases)) cs old
+    → LeadsFrom olds (map base_components (take i bases)) cs old
+    ⊎ LeadsToPath olds (base_components (get_or bases i none) ++ cs) old
+LeadsFrom-next olds bases i none cs old within from =
+    elim (Contains-push_cases (map base_components (take i bases)) (base_components (get_or bases i none))
     from.directory
-    (subst (λ list. Contains list from.directory) (map_more path_components directories i none within) from.is_one)) [
+    (subst (λ list. Contains list from.directory) (map_more base_components bases i none within) from.is_one)) [
       | inl before ↦ inl (record { directory = from.directory; is_one = before; leads = from.leads })
       | inr same ↦ inr (subst (λ d. LeadsToPath olds (d ++ cs) old) (sym same) from.leads)
     ]

@@ -1,21 +1,11 @@
 -- What a text ends in.
-use Rattle.std.specs.Prelude.{ℕ, ◌+◌, ◌*◌, ◌%◌, ◌^◌, true, false, ◌==◌, ◌||◌, List, ◌∷◌, ◌++◌, Option, if◌then◌else◌}
+use Rattle.std.specs.Prelude.{ℕ, true, false, ◌==◌, ◌||◌, List, if◌then◌else◌}
 use Rattle.std.specs.List.{fold}
-use Rattle.std.specs.Option.{option_and_then, option_map}
 use Rattle.percent_encoding.specs.Percent.{percent_sign}
-use Rattle.relative_path.specs.Steps.{Step, is_slash, slash}
-use Rattle.relative_path.specs.Editing.{kept}
-use Rattle.relative_path.specs.Naming.{last_name}
+use Rattle.relative_path.specs.Steps.{is_slash}
+use Rattle.relmove_mentions.specs.NameHashes.{next_hash}
 use Rattle.relmove_mentions.specs.Spans.{is_other_byte}
 use Rattle.relmove_mentions.specs.declared.endings.Ending.{Ending}
-
--- the hash of a text with one more byte
-abbrev pub next_hash : ℕ → ℕ → ℕ
-next_hash hash b = (hash * 31 % 2 ^ 64 + b) % 2 ^ 64
-
--- the hash of a text
-abbrev pub hash_of : List ℕ → ℕ
-hash_of text = fold next_hash 0 text
 
 -- what the empty text ends in
 abbrev pub no_ending : Ending
@@ -38,8 +28,3 @@ next_ending ending b =
 -- what a text ends in
 abbrev pub ending_of : List ℕ → Ending
 ending_of text = fold next_ending no_ending text
-
--- the hash of the last two names of a list, with a slash between them
-abbrev pub last_two_of : List Step → Option ℕ
-last_two_of cs =
-    option_and_then (λ n. option_map (λ d. hash_of (d ++ slash ∷ n)) (last_name (kept cs))) (last_name cs)

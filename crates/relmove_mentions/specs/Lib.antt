@@ -2,7 +2,9 @@ pub mod Spans
 pub mod First
 pub mod Names
 pub mod Written
+pub mod NameHashes
 pub mod Hashes
 pub mod Endings
+pub mod Bases
 pub mod OldNames
 pub mod Mentions

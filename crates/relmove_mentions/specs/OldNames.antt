@@ -4,14 +4,15 @@ use Rattle.std.specs.BTreeMap.{get_by_text}
 use Rattle.std.specs.BTreeSet.{contains_text}
 use Rattle.std.specs.List.{Contains, flat_map}
 use Rattle.std.specs.Option.{option_map_or}
-use Rattle.relative_path.specs.Steps.{Step, name, dot, slash}
+use Rattle.relative_path.specs.Steps.{Step, name, dot}
 use Rattle.relative_path.specs.Walk.{IsSame}
 use Rattle.relative_path.specs.Normalizing.{IsNormalTextOf}
 use Rattle.relative_path_places.specs.Views.{view_text}
 use Rattle.relative_path_places.specs.declared.normal_view.NormalView.{NormalView}
-use Rattle.relmove_mentions.specs.Endings.{ending_of, hash_of, last_two_of}
+use Rattle.relmove_mentions.specs.Endings.{ending_of}
 use Rattle.relmove_mentions.specs.First.{IsFirst}
 use Rattle.relmove_mentions.specs.Hashes.{may_have}
+use Rattle.relmove_mentions.specs.NameHashes.{hash_of, two_hash}
 use Rattle.relmove_mentions.specs.Names.{names_of, most_others}
 use Rattle.relmove_mentions.specs.declared.endings.Ending.{Ending}
 use Rattle.relmove_mentions.specs.declared.old_names.OldNames.{OldNames}
@@ -41,9 +42,9 @@ pub record HasLastName (set : OldNames) (n : List ℕ) : Type 0 where
 abbrev pub may_end : OldNames → Ending → Bool
 may_end set ending = ending.encoded || ending.hash == dot || may_have set.endings ending.hash
 
--- a name of the set may end in the last two names of the components
-abbrev pub may_have_last_two : OldNames → List Step → Bool
-may_have_last_two set cs = option_map_or (may_have set.last_twos) (last_two_of cs) true
+-- a name of the set may end in two names with this hash, if there is a hash
+abbrev pub may_have_two : OldNames → Option ℕ → Bool
+may_have_two set two = option_map_or (may_have set.last_twos) two true
 
 -- under the normal text of a name the set has the first path with this name, and under no other text a path; it has
 -- the last name of each, and its last two names
@@ -55,7 +56,7 @@ pub record Lists (names : List PathName) (set : OldNames) : Type 0 where
   pub last : (old : List ℕ) (steps front : List Step) (n : List ℕ) → Contains names (old, steps)
       → IsSame (front ++ name n ∷ []) steps → HasLastName set n
   pub last_two : (old : List ℕ) (steps front : List Step) (d n : List ℕ) → Contains names (old, steps)
-      → IsSame (front ++ name d ∷ name n ∷ []) steps → IsTrue (may_have set.last_twos (hash_of (d ++ slash ∷ n)))
+      → IsSame (front ++ name d ∷ name n ∷ []) steps → IsTrue (may_have_two set (two_hash (Some (hash_of d)) (Some (hash_of n))))
 
 -- the set has these old paths
 pub record Has (olds : List (List ℕ)) (set : OldNames) : Type 0 where

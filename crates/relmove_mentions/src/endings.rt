@@ -1,8 +1,8 @@
-//! What a text ends in, and hashes of texts.
+//! What a text ends in.
 ghost use Rattle.std.specs.Prelude.{◌≡◌};
-ghost use Rattle.std.specs.List.{fold};
-ghost use Rattle.relmove_mentions.specs.Endings.{ending_of, next_ending, next_hash, no_ending};
+ghost use Rattle.relmove_mentions.specs.Endings.{ending_of, next_ending, no_ending};
 
+use crate::name_hashes::hash_with;
 use crate::text_span::is_path_byte;
 
 // What a text ends in: the path bytes at the end of its last name, and slashes.
@@ -61,23 +61,4 @@ pub(crate) fn ending_of(text: &[u8]) -> Ending
         ending = ending.then(*byte);
     }
     ending
-}
-
-// Returns the hash of a text that goes on after one with this hash.
-pub(crate) fn hash_after(before: u64, text: &[u8]) -> u64
-    ensures { result ≡ fold next_hash before text.now }
-{
-    let mut hash = before;
-    for byte in text {
-        hash = hash_with(hash, *byte);
-    }
-    hash
-}
-
-// The same for one byte.
-#[inline]
-fn hash_with(hash: u64, byte: u8) -> u64
-    ensures { result ≡ next_hash hash byte }
-{
-    hash.wrapping_mul(31).wrapping_add(byte as u64)
 }

@@ -5,8 +5,10 @@
 //! ```text
 //! the mentions in a text        mentions
 //! the old paths, by their names old_names
-//! sets of hashes                hashes
+//! a file that is searched       searched_file
+//! where paths lead from         bases
 //! what a text ends in           endings
+//! sets, and hashes of names     hashes, name_hashes
 //! a file's text                 file_text
 //! spans of a text               text_span
 //! ```
@@ -17,9 +19,12 @@ pub use self::mentions::Mention;
 pub use self::old_names::{OldNames, is_page};
 pub use self::text_span::{TextSpan, are_spans_in_order};
 
+mod bases;
 mod endings;
 mod file_text;
 mod hashes;
 mod mentions;
+mod name_hashes;
 mod old_names;
+mod searched_file;
 mod text_span;

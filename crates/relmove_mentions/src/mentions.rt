@@ -5,8 +5,10 @@ ghost use Rattle.percent_encoding.specs.Percent.{percent_sign};
 ghost use Rattle.relative_path.specs.Unix.{has_root};
 ghost use Rattle.relative_path.specs.RelativePath.{path_components, path_text};
 ghost use Rattle.relative_path_places.specs.Views.{view_text};
+ghost use Rattle.relmove_mentions.specs.Bases.{base_components};
 ghost use Rattle.relmove_mentions.specs.Endings.{ending_of};
 ghost use Rattle.relmove_mentions.specs.Mentions.{AreMentionsBefore, IsMention, spans_of};
+ghost use Rattle.relmove_mentions.specs.NameHashes.{name_alone};
 ghost use Rattle.relmove_mentions.specs.OldNames.{Finds, Has, may_end};
 ghost use Rattle.relmove_mentions.specs.Spans.{
   ArePassed,
@@ -31,9 +33,12 @@ ghost use Rattle.relmove_mentions.specs.Written.{
 };
 ghost use Rattle.relmove_mentions.specs.declared.text_span.TextSpan.{TextSpan};
 
+use crate::bases::Base;
 use crate::endings::Ending;
 use crate::file_text::FileText;
+use crate::name_hashes::{last_two_hash, name_alone, two_hash};
 use crate::old_names::OldNames;
+use crate::searched_file::{SearchedFile, bases_of};
 use crate::text_span::{TextSpan, is_apart, is_bounded_after, is_bounded_before, is_path_byte};
 use percent_encoding::percent_decode;
 use relative_path::RelativePath;
@@ -61,9 +66,10 @@ impl<'p> OldNames<'p> {
     /// such bytes as an old path. What was read has no byte of a mention. An empty span has no byte, so a mention can go
     /// on across it.
     ///
-    /// Time is linear in the text, and grows with the square of that number. Allocates the list of mentions; for each
-    /// span with a percent sign the decoded bytes; and for each that ends in the last name of a name, what
-    /// `join_normalized` does, for each directory and each top at most twice. Fails only if an allocation fails.
+    /// Time is linear in the text, and grows with the square of that number. Allocates the list of mentions, and an entry
+    /// for each directory and each top. For a span with a percent sign it allocates at most the decoded bytes, and for a span
+    /// that ends in the last name of a name at most what `join_normalized` does, for each directory and each top twice.
+    /// Fails only if an allocation fails.
     ///
     /// ```
     /// let paths = [NormalPath::of(alloc, RelativePath::new("my docs/a.md"))?];
@@ -92,13 +98,40 @@ impl<'p> OldNames<'p> {
         ensures in_order { IfOk result (λ mentions. (olds : List (List ℕ)) → Has olds self.now
             → AllPairs ComesBefore (spans_of mentions.items)) }
     {
+        let directories = bases_of(alloc, file.directories)?;
+        let tops = bases_of(alloc, file.tops)?;
+        let searched = SearchedFile {
+            file,
+            directories: directories.as_slice(),
+            tops: tops.as_slice(),
+        };
+        self.mentions_in(alloc, searched)
+    }
+
+    // Does so in a file whose bases are known.
+    fn mentions_in(
+        &self,
+        alloc: Global,
+        searched: SearchedFile<'_>,
+    ) -> Result<Vec<Mention<'p>>, AllocError>
+        requires read_in_order { FollowFrom 0 searched.file.read.now }
+        ensures sound { IfOk result (λ mentions. (olds : List (List ℕ)) → Has olds self.now
+            → All (λ mention. IsMention olds searched.entry.file mention.span (view_text mention.path)) mentions.items) }
+        ensures complete { IfOk result (λ mentions. (olds : List (List ℕ)) → Has olds self.now
+            → (span : TextSpan) (old : List ℕ) → IsMention olds searched.entry.file span old
+            → Contains (spans_of mentions.items) span) }
+        ensures in_order { IfOk result (λ mentions. (olds : List (List ℕ)) → Has olds self.now
+            → AllPairs ComesBefore (spans_of mentions.items)) }
+    {
+        let file = searched.file;
         let mut mentions = Vec::new(alloc);
         let mut passed = 0;
         let mut start = 0;
         while let Some(end) = self.next_end(file.text, start) {
             start = self.first_start(file.text, start, end);
             passed = count_passed(file.read, passed, start);
-            self.push_between(alloc, file, passed, TextSpan { start, end }, &mut mentions)?;
+            let span = TextSpan { start, end };
+            self.push_between(alloc, searched, passed, span, &mut mentions)?;
             start = end;
         }
         Ok(mentions)
@@ -130,9 +163,9 @@ impl<'p> OldNames<'p> {
     // Returns whether a mention can end at an offset, before which a text ends so.
     #[inline]
     fn can_end(&self, ending: Ending, text: &[u8], end: usize) -> bool
-        ensures { result ≡ (may_end self.now ending && is_bounded_after text.now end) }
+        ensures { result ≡ (is_bounded_after text.now end && may_end self.now ending) }
     {
-        self.may_end(ending) && is_bounded_after(text, end)
+        is_bounded_after(text, end) && self.may_end(ending)
     }
 
     // Returns the first offset from a start on at which a mention can begin that ends at an offset or later.
@@ -161,24 +194,24 @@ impl<'p> OldNames<'p> {
     fn push_between(
         &self,
         alloc: Global,
-        file: FileText<'_>,
+        searched: SearchedFile<'_>,
         passed: usize,
         span: TextSpan,
         mentions: &mut Vec<Mention<'p>>,
     ) -> Result<(), AllocError>
         requires order { span.start ≤ span.end }
-        requires within { span.end ≤ length file.text.now }
-        requires in_order { FollowFrom 0 file.read.now }
-        requires passed { ArePassed file.read.now passed span.start }
+        requires within { span.end ≤ length searched.file.text.now }
+        requires in_order { FollowFrom 0 searched.file.read.now }
+        requires passed { ArePassed searched.file.read.now passed span.start }
         ensures { OnOk result ((olds : List (List ℕ)) → Has olds self.now
-            → AreMentionsBefore olds file.entry mentions.old.items span.start 0
-            → AreMentionsBefore olds file.entry mentions.new.items span.end 0) }
+            → AreMentionsBefore olds searched.entry.file mentions.old.items span.start 0
+            → AreMentionsBefore olds searched.entry.file mentions.new.items span.end 0) }
     {
         let mut passed = passed;
         let mut start = span.start;
         while start < span.end {
-            passed = count_passed(file.read, passed, start);
-            self.push_from(alloc, file, passed, start, mentions)?;
+            passed = count_passed(searched.file.read, passed, start);
+            self.push_from(alloc, searched, passed, start, mentions)?;
             start += 1;
         }
         Ok(())
@@ -188,53 +221,54 @@ impl<'p> OldNames<'p> {
     fn push_from(
         &self,
         alloc: Global,
-        file: FileText<'_>,
+        searched: SearchedFile<'_>,
         passed: usize,
         start: usize,
         mentions: &mut Vec<Mention<'p>>,
     ) -> Result<(), AllocError>
-        requires within { start ≤ length file.text.now }
-        requires in_order { FollowFrom 0 file.read.now }
-        requires passed { ArePassed file.read.now passed start }
+        requires within { start ≤ length searched.file.text.now }
+        requires in_order { FollowFrom 0 searched.file.read.now }
+        requires passed { ArePassed searched.file.read.now passed start }
         ensures { OnOk result ((olds : List (List ℕ)) → Has olds self.now
-            → AreMentionsBefore olds file.entry mentions.old.items start 0
-            → AreMentionsBefore olds file.entry mentions.new.items (start + 1) 0) }
+            → AreMentionsBefore olds searched.entry.file mentions.old.items start 0
+            → AreMentionsBefore olds searched.entry.file mentions.new.items (start + 1) 0) }
     {
-        if !is_bounded_before(file.text, start) {
+        if !is_bounded_before(searched.file.text, start) {
             return Ok(());
         }
-        self.push_bounded(alloc, file, passed, start, mentions)
+        self.push_bounded(alloc, searched, passed, start, mentions)
     }
 
     // The same, for an offset at which a mention can begin.
     fn push_bounded(
         &self,
         alloc: Global,
-        file: FileText<'_>,
+        searched: SearchedFile<'_>,
         passed: usize,
         start: usize,
         mentions: &mut Vec<Mention<'p>>,
     ) -> Result<(), AllocError>
-        requires within { start ≤ length file.text.now }
-        requires before { IsTrue (is_bounded_before file.text.now start) }
-        requires in_order { FollowFrom 0 file.read.now }
-        requires passed { ArePassed file.read.now passed start }
+        requires within { start ≤ length searched.file.text.now }
+        requires before { IsTrue (is_bounded_before searched.file.text.now start) }
+        requires in_order { FollowFrom 0 searched.file.read.now }
+        requires passed { ArePassed searched.file.read.now passed start }
         ensures { OnOk result ((olds : List (List ℕ)) → Has olds self.now
-            → AreMentionsBefore olds file.entry mentions.old.items start 0
-            → AreMentionsBefore olds file.entry mentions.new.items (start + 1) 0) }
+            → AreMentionsBefore olds searched.entry.file mentions.old.items start 0
+            → AreMentionsBefore olds searched.entry.file mentions.new.items (start + 1) 0) }
     {
+        let text = searched.file.text;
         let mut left = self.most_others();
         let mut ending = Ending::none();
         let mut end = start;
-        while end < file.text.len() {
-            let Some(more) = others_left(file.text[end], left) else {
+        while end < text.len() {
+            let Some(more) = others_left(text[end], left) else {
                 return Ok(());
             };
             left = more;
-            ending = ending.then(file.text[end]);
+            ending = ending.then(text[end]);
             end += 1;
             let span = TextSpan { start, end };
-            self.push_at(alloc, file, passed, span, ending, mentions)?;
+            self.push_at(alloc, searched, passed, span, ending, mentions)?;
         }
         Ok(())
     }
@@ -243,24 +277,24 @@ impl<'p> OldNames<'p> {
     fn push_at(
         &self,
         alloc: Global,
-        file: FileText<'_>,
+        searched: SearchedFile<'_>,
         passed: usize,
         span: TextSpan,
         ending: Ending,
         mentions: &mut Vec<Mention<'p>>,
     ) -> Result<(), AllocError>
         requires order { span.start < span.end }
-        requires within { span.end ≤ length file.text.now }
-        requires before { IsTrue (is_bounded_before file.text.now span.start) }
-        requires ending { ending ≡ ending_of (span_bytes file.text.now span) }
-        requires few { others_in (span_bytes file.text.now span) ≤ self.now.most_others }
-        requires in_order { FollowFrom 0 file.read.now }
-        requires passed { ArePassed file.read.now passed span.start }
+        requires within { span.end ≤ length searched.file.text.now }
+        requires before { IsTrue (is_bounded_before searched.file.text.now span.start) }
+        requires ending { ending ≡ ending_of (span_bytes searched.file.text.now span) }
+        requires few { others_in (span_bytes searched.file.text.now span) ≤ self.now.most_others }
+        requires in_order { FollowFrom 0 searched.file.read.now }
+        requires passed { ArePassed searched.file.read.now passed span.start }
         ensures { OnOk result ((olds : List (List ℕ)) → Has olds self.now
-            → AreMentionsBefore olds file.entry mentions.old.items span.start span.end
-            → AreMentionsBefore olds file.entry mentions.new.items span.start (span.end + 1)) }
+            → AreMentionsBefore olds searched.entry.file mentions.old.items span.start span.end
+            → AreMentionsBefore olds searched.entry.file mentions.new.items span.start (span.end + 1)) }
     {
-        let found = self.find_at(alloc, file, passed, span, ending)?;
+        let found = self.find_at(alloc, searched, passed, span, ending)?;
         match found {
             Some(path) => {
                 mentions.push(Mention { span, path })?;
@@ -274,41 +308,41 @@ impl<'p> OldNames<'p> {
     fn find_at(
         &self,
         alloc: Global,
-        file: FileText<'_>,
+        searched: SearchedFile<'_>,
         passed: usize,
         span: TextSpan,
         ending: Ending,
     ) -> Result<Option<NormalView<'p>>, AllocError>
         requires order { span.start < span.end }
-        requires within { span.end ≤ length file.text.now }
-        requires before { IsTrue (is_bounded_before file.text.now span.start) }
-        requires ending { ending ≡ ending_of (span_bytes file.text.now span) }
-        requires few { others_in (span_bytes file.text.now span) ≤ self.now.most_others }
-        requires in_order { FollowFrom 0 file.read.now }
-        requires passed { ArePassed file.read.now passed span.start }
+        requires within { span.end ≤ length searched.file.text.now }
+        requires before { IsTrue (is_bounded_before searched.file.text.now span.start) }
+        requires ending { ending ≡ ending_of (span_bytes searched.file.text.now span) }
+        requires few { others_in (span_bytes searched.file.text.now span) ≤ self.now.most_others }
+        requires in_order { FollowFrom 0 searched.file.read.now }
+        requires passed { ArePassed searched.file.read.now passed span.start }
         ensures { IfOk result (λ found. (olds : List (List ℕ)) → Has olds self.now
-            → Finds olds (IsMention olds file.entry span) found) }
+            → Finds olds (IsMention olds searched.entry.file span) found) }
     {
-        if !self.can_end(ending, file.text, span.end) {
+        if !self.can_end(ending, searched.file.text, span.end) {
             return Ok(None);
         }
-        if !is_unread(file.read, passed, span) {
+        if !is_unread(searched.file.read, passed, span) {
             return Ok(None);
         }
-        self.find(alloc, file, &file.text[span.start..span.end])
+        self.find(alloc, searched, &searched.file.text[span.start..span.end])
     }
 
     // Returns an old path that bytes write.
     fn find(
         &self,
         alloc: Global,
-        file: FileText<'_>,
+        searched: SearchedFile<'_>,
         bytes: &[u8],
     ) -> Result<Option<NormalView<'p>>, AllocError>
         ensures { IfOk result (λ found. (olds : List (List ℕ)) → Has olds self.now
-            → Finds olds (IsWritten olds file.entry bytes.now) found) }
+            → Finds olds (IsWritten olds searched.entry.file bytes.now) found) }
     {
-        if let Some(old) = self.find_text(alloc, file, bytes)? {
+        if let Some(old) = self.find_text(alloc, searched, bytes)? {
             return Ok(Some(old));
         }
         if !has_percent(bytes) {
@@ -316,18 +350,18 @@ impl<'p> OldNames<'p> {
         }
         let mut text = Vec::new(alloc);
         percent_decode(bytes).append_to(&mut text)?;
-        self.find_text(alloc, file, text.as_slice())
+        self.find_text(alloc, searched, text.as_slice())
     }
 
     // Returns an old path for which a text stands.
     fn find_text(
         &self,
         alloc: Global,
-        file: FileText<'_>,
+        searched: SearchedFile<'_>,
         text: &[u8],
     ) -> Result<Option<NormalView<'p>>, AllocError>
         ensures { IfOk result (λ found. (olds : List (List ℕ)) → Has olds self.now
-            → Finds olds (StandsFor olds file.entry text.now) found) }
+            → Finds olds (StandsFor olds searched.entry.file text.now) found) }
     {
         let Ok(text) = str::from_utf8(text) else {
             return Ok(None);
@@ -339,63 +373,82 @@ impl<'p> OldNames<'p> {
         if !self.has_last_name(last) {
             return Ok(None);
         }
-        if !self.may_have_last_two(path) {
+        if !self.may_have_two(last_two_hash(path)) {
             return Ok(None);
         }
-        if let Some(old) = self.find_from_directory(alloc, file, path)? {
+        if let Some(old) = self.find_from_directory(alloc, searched, path)? {
             return Ok(Some(old));
         }
-        self.find_from_top(alloc, file, path)
+        self.find_from_top(alloc, searched, path)
     }
 
     // Returns an old path to which a path leads from a directory of a file.
     fn find_from_directory(
         &self,
         alloc: Global,
-        file: FileText<'_>,
+        searched: SearchedFile<'_>,
         path: RelativePath<'_>,
     ) -> Result<Option<NormalView<'p>>, AllocError>
         ensures { IfOk result (λ found. (olds : List (List ℕ)) → Has olds self.now
-            → Finds olds (LeadsFromDirectory olds file.entry (path_text path.entry)) found) }
+            → Finds olds (LeadsFromDirectory olds searched.entry.file (path_text path.entry)) found) }
     {
         if has_root(path) {
             return Ok(None);
         }
-        self.find_from(alloc, file.directories, path)
+        self.find_from(alloc, searched.directories, path)
     }
 
     // Returns an old path to which a path leads from a top.
     fn find_from_top(
         &self,
         alloc: Global,
-        file: FileText<'_>,
+        searched: SearchedFile<'_>,
         path: RelativePath<'_>,
     ) -> Result<Option<NormalView<'p>>, AllocError>
         ensures { IfOk result (λ found. (olds : List (List ℕ)) → Has olds self.now
-            → Finds olds (LeadsFromTop olds file.entry (path_text path.entry)) found) }
+            → Finds olds (LeadsFromTop olds searched.entry.file (path_text path.entry)) found) }
     {
         if !has_directory(path) {
             return Ok(None);
         }
-        self.find_from(alloc, file.tops, path)
+        self.find_from(alloc, searched.tops, path)
     }
 
-    // Returns an old path to which a path leads from one of these directories.
+    // Returns an old path to which a path leads from one of these bases.
     fn find_from(
         &self,
         alloc: Global,
-        directories: &[RelativePath<'_>],
+        bases: &[Base<'_>],
         path: RelativePath<'_>,
     ) -> Result<Option<NormalView<'p>>, AllocError>
         ensures { IfOk result (λ found. (olds : List (List ℕ)) → Has olds self.now
-            → Finds olds (LeadsFrom olds (map path_components directories.now) (path_components path.entry)) found) }
+            → Finds olds (LeadsFrom olds (map base_components bases.now) (path_components path.entry)) found) }
     {
-        for directory in directories {
-            if let Some(old) = self.find_joined(alloc, *directory, path)? {
+        let name = name_alone(path);
+        for base in bases {
+            if let Some(old) = self.find_below(alloc, *base, path, name)? {
                 return Ok(Some(old));
             }
         }
         Ok(None)
+    }
+
+    // Returns an old path to which a base and then a path lead. If the path is a name alone, this is the name's hash.
+    fn find_below(
+        &self,
+        alloc: Global,
+        base: Base<'_>,
+        path: RelativePath<'_>,
+        name: Option<u64>,
+    ) -> Result<Option<NormalView<'p>>, AllocError>
+        requires name { name ≡ name_alone (path_components path) }
+        ensures { IfOk result (λ found. (olds : List (List ℕ)) → Has olds self.now
+            → Finds olds (LeadsToPath olds (base_components base.entry ++ path_components path.entry)) found) }
+    {
+        if !self.may_have_two(two_hash(base.name, name)) {
+            return Ok(None);
+        }
+        self.find_joined(alloc, base.path, path)
     }
 
     // Returns an old path to which a directory and then a path lead.

@@ -9,8 +9,9 @@ ghost use Rattle.relative_path.specs.Naming.{file_name_of, stem_of};
 ghost use Rattle.relative_path.specs.RelativePath.{path_components, path_text};
 ghost use Rattle.relative_path.specs.Steps.{Step, components};
 ghost use Rattle.relative_path_places.specs.Views.{view_text};
-ghost use Rattle.relmove_mentions.specs.Endings.{ending_of, last_two_of};
+ghost use Rattle.relmove_mentions.specs.Endings.{ending_of};
 ghost use Rattle.relmove_mentions.specs.Hashes.{may_have};
+ghost use Rattle.relmove_mentions.specs.NameHashes.{last_two_hash};
 ghost use Rattle.relmove_mentions.specs.Names.{
   bare_names,
   directory_names,
@@ -22,11 +23,12 @@ ghost use Rattle.relmove_mentions.specs.Names.{
   names_of,
   page_names,
 };
-ghost use Rattle.relmove_mentions.specs.OldNames.{Has, Lists, may_end, may_have_last_two, with_names};
+ghost use Rattle.relmove_mentions.specs.OldNames.{Has, Lists, may_end, may_have_two, with_names};
 ghost use Rattle.relmove_mentions.specs.Spans.{others_in};
 
-use crate::endings::{Ending, ending_of, hash_after};
+use crate::endings::{Ending, ending_of};
 use crate::hashes::Hashes;
+use crate::name_hashes::last_two_hash;
 use crate::text_span::others_in;
 use relative_path::RelativePath;
 use relative_path_places::{NormalView, directory};
@@ -53,7 +55,7 @@ pub struct OldNames<'p> {
     last_names: BTreeSet<String>,
     // The hashes of what the last names end in.
     endings: Hashes,
-    // Those of the last two names, with a slash between them.
+    // Those of the last two names.
     last_twos: Hashes,
     most_others: usize,
 }
@@ -66,8 +68,8 @@ impl<'p> OldNames<'p> {
     /// the extension `html`, and without an extension, unless that leaves `.` or `..`; and as `README.md`, `index.md` or
     /// `_index.md` its directory's `index.html`, and its directory, unless that is the root.
     ///
-    /// Allocates a copy of each name and of its last name, and entries for those that are new. Fails only if an
-    /// allocation fails.
+    /// Allocates a copy of each name and of its last name, entries for those that are new, and two tables of at most 256
+    /// bytes for each path. Fails only if an allocation fails.
     ///
     /// ```
     /// let pages = [NormalPath::of(alloc, RelativePath::new("docs/README.md"))?];
@@ -223,11 +225,12 @@ impl<'p> OldNames<'p> {
         ending.encoded || ending.hash == DOT_HASH || self.endings.may_have(ending.hash)
     }
 
-    // Returns whether a name of an old path may end in the last two names of a path.
-    pub(crate) fn may_have_last_two(&self, path: RelativePath<'_>) -> bool
-        ensures { result ≡ may_have_last_two self.now (path_components path.entry) }
+    // Returns whether a name of an old path may end in two names with this hash. If there is no hash, it may.
+    #[inline]
+    pub(crate) fn may_have_two(&self, two: Option<u64>) -> bool
+        ensures { result ≡ may_have_two self.now two }
     {
-        match last_two_of(path) {
+        match two {
             Some(hash) => self.last_twos.may_have(hash),
             None => true,
         }
@@ -271,23 +274,13 @@ fn insert_ending(endings: &mut Hashes, path: RelativePath<'_>)
 
 // Inserts the last two names of a path.
 fn insert_last_two(last_twos: &mut Hashes, path: RelativePath<'_>)
-    ensures has { (hash : ℕ) → last_two_of (path_components path.entry) ≡ Some hash
+    ensures has { (hash : ℕ) → last_two_hash (path_components path.entry) ≡ Some hash
         → may_have last_twos.new hash ≡ true }
     ensures keeps { (hash : ℕ) → may_have last_twos.old hash ≡ true → may_have last_twos.new hash ≡ true }
 {
-    if let Some(hash) = last_two_of(path) {
+    if let Some(hash) = last_two_hash(path) {
         last_twos.insert(hash);
     }
-}
-
-// Returns the hash of the last two names of a path, with a slash between them.
-fn last_two_of(path: RelativePath<'_>) -> Option<u64>
-    ensures { result ≡ last_two_of (path_components path.entry) }
-{
-    let name = path.file_name()?;
-    let before = directory(path).file_name()?;
-    let hash = hash_after(hash_after(0, before.as_bytes()), b"/");
-    Some(hash_after(hash, name.as_bytes()))
 }
 
 // Inserts a text.

@@ -20,7 +20,7 @@ fn names_of(alloc: Global, old: &str, text: &str) -> Result<(), Fail> {
     row_mentions(alloc, &names, ("", text, expected.as_str()))
 }
 
-// Requests: 1s 5 5 368 608 = 4, 1s 4 4 368 608 6 1s 6 6 1 1s 1 1 = 8, 2s 6 4 368 608 = 4
+// Requests: 128 128 1s 5 5 368 608 = 6, 128 128 1s 4 4 368 608 6 1s 6 6 1 1s 1 1 = 10, 128 128 2s 6 4 368 608 = 6
 #[test]
 fn the_names_of_a_path(rt: HostRuntime) -> Result<(), Fail> {
     names_of(rt.alloc(), "a.txt", "a.txt")?;
@@ -50,11 +50,12 @@ fn mentions_of(alloc: Global, (directory, text, expected): (&str, &str, &str)) -
     }
 }
 
-// Requests: = 0, 1s 5 128 = 1, 8 1s 5 128 = 1, 3s 9 2s 7 = 0
+// Requests: 32 32 = 0, 32 32 1s 5 128 = 1, 32 32 8 1s 5 128 = 1, 32 32 = 0, 32 32 4s 7 2s 8 = 0
 #[test]
 fn the_mentions_of_a_path(rt: HostRuntime) -> Result<(), Fail> {
     mentions_of(rt.alloc(), ("", "a b", ""))?;
     mentions_of(rt.alloc(), ("", "see a.txt", "a.txt > a.txt; "))?;
     mentions_of(rt.alloc(), ("", "%61.txt", "%61.txt > a.txt; "))?;
-    mentions_of(rt.alloc(), ("d", "x/a.txt", ""))
+    mentions_of(rt.alloc(), ("d", "x/a.txt", ""))?;
+    mentions_of(rt.alloc(), ("d/e", "../a.txt", ""))
 }

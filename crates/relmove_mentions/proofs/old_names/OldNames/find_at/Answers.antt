@@ -12,10 +12,10 @@ use Rattle.relmove_mentions.proofs.old_names.OldNames.find_at.Goals as goal
 
 pub returns-then-not-can_end : goal.returns-then-not-can_end
 returns-then-not-can_end c = λ olds has old is_old is.
-    let bytes = span_bytes c.args.file.text.now c.args.span in
-    let end = may_end-written olds c.args.self.now c.args.file bytes old has is_old is.written in
+    let bytes = span_bytes c.args.searched.file.text.now c.args.span in
+    let end = may_end-written olds c.args.self.now c.args.searched.file bytes old has is_old is.written in
     true≢false
-    (sym (and_from _ _ (ap (may_end c.args.self.now) c.requires.ending ∙ end) is.bounded.after)
+    (sym (and_from _ _ is.bounded.after (ap (may_end c.args.self.now) c.requires.ending ∙ end))
     ∙ sym c.can_end.ensures ∙ c.if-not-can_end.true)
 
 pub returns-then-not-is_unread : goal.returns-then-not-is_unread
@@ -25,20 +25,20 @@ returns-then-not-is_unread c = λ olds has old is_old is.
 
 pub returns : goal.returns
 returns c =
-    let text = c.args.file.text.now in
+    let text = c.args.searched.file.text.now in
     let bytes = span_bytes text c.args.span in
     IfOk-weaker c.find.result _ _
     (λ found finds olds has.
-    Finds-map olds (IsWritten olds c.args.file bytes) (IsMention olds c.args.file c.args.span) found
+    Finds-map olds (IsWritten olds c.args.searched.file bytes) (IsMention olds c.args.searched.file c.args.span) found
     (λ old is_old written. record {
       is_old = is_old;
       bounded = record {
         order = c.requires.order;
         within = c.requires.within;
         before = c.requires.before;
-        after = (and_parts _ _ (sym c.can_end.ensures ∙ c.if-not-can_end.false)).1;
+        after = (and_parts _ _ (sym c.can_end.ensures ∙ c.if-not-can_end.false)).0;
       };
-      few = subst (λ most. others_in (span_bytes c.args.file.text.now c.args.span) ≤ most) has.most c.requires.few;
+      few = subst (λ most. others_in (span_bytes c.args.searched.file.text.now c.args.span) ≤ most) has.most c.requires.few;
       unread =
           sym (c.requires.passed c.args.span (omega arith)) ∙ sym c.is_unread.ensures ∙ c.if-not-is_unread.false;
       written = written;

@@ -3,15 +3,16 @@ use Rattle.std.proofs.Common.{IsTrue, map, sym, ◌∙◌}
 use Rattle.std.proofs.lemmas.Result.{IfOk-weaker}
 use Rattle.relative_path.specs.RelativePath.{path_components, path_text}
 use Rattle.relmove_mentions.specs.Written.{LeadsFrom, LeadsFromTop, has_directory}
-use Rattle.relmove_mentions.proofs.OldNamesLemmas.{Finds-map}
+use Rattle.relmove_mentions.proofs.OldNamesLemmas.{Finds-map, base_components-same}
 use Rattle.relmove_mentions.proofs.old_names.OldNames.find_from_top.Goals as goal
 
 pub returns : goal.returns
 returns c =
     let text = path_text c.args.path in
     let some : IsTrue (has_directory text) = sym c.has_directory.ensures ∙ c.if-not-has_directory.false in
+    let same = base_components-same c.args.searched.tops.now c.args.searched.file.tops.now c.args.searched.tops_same in
     IfOk-weaker c.find_from.result _ _
     (λ found finds olds has.
-    Finds-map olds (LeadsFrom olds (map path_components c.args.file.tops.now) (path_components c.args.path))
-    (LeadsFromTop olds c.args.file text) found (λ old is_old leads. (some, leads)) (λ old leads. leads.1) (finds olds has))
+    Finds-map olds (LeadsFrom olds (map path_components c.args.searched.file.tops.now) (path_components c.args.path))
+    (LeadsFromTop olds c.args.searched.file text) found (λ old is_old leads. (some, leads)) (λ old leads. leads.1) (rw same at (finds olds has)))
     c.find_from.ensures

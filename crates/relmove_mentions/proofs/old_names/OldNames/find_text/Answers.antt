@@ -1,9 +1,11 @@
 -- From the directory the text leads to no path, so what it leads to from the top is all.
-use Rattle.std.proofs.Common.{◌≡◌, IsSome, None, refl, subst, sym, true≢false, ◌∙◌}
+use Rattle.std.proofs.Common.{◌≡◌, IsSome, None, ap, refl, subst, sym, true≢false, ◌∙◌}
 use Rattle.std.proofs.lemmas.Result.{IfOk-weaker}
 use Rattle.relative_path.specs.Naming.{file_name_of}
 use Rattle.relative_path.specs.RelativePath.{path_text}
-use Rattle.relmove_mentions.specs.OldNames.{Finds}
+use Rattle.relative_path.specs.Steps.{components}
+use Rattle.relmove_mentions.specs.NameHashes.{last_two_hash}
+use Rattle.relmove_mentions.specs.OldNames.{Finds, may_have_two}
 use Rattle.relmove_mentions.specs.Written.{LeadsFromDirectory, LeadsFromTop}
 use Rattle.relmove_mentions.proofs.OldNamesLemmas.{Finds-second, StandsFor-last, StandsFor-last_two}
 use Rattle.relmove_mentions.proofs.WrittenLemmas.{Finds-text}
@@ -12,19 +14,21 @@ use Rattle.relmove_mentions.proofs.old_names.OldNames.find_text.Goals as goal
 pub returns-then-not-has_last_name : goal.returns-then-not-has_last_name
 returns-then-not-has_last_name c = λ olds has old is_old stands.
     let is_text : path_text c.new-path.result ≡ c.args.text.now = c.new-path.ensures ∙ c.in-Ok.ensures.cases.0 in
-    let last = StandsFor-last olds c.args.self.now c.args.file c.args.text.now c.in-Some.last.now old has is_old
+    let last = StandsFor-last olds c.args.self.now c.args.searched.file c.args.text.now c.in-Some.last.now old has is_old
     (rw is_text at (sym c.in-Some.ensures.text)) stands in
     true≢false (sym last.listed ∙ sym c.has_last_name.ensures ∙ c.if-not-has_last_name.true)
 
-pub returns-then-not-may_have_last_two : goal.returns-then-not-may_have_last_two
-returns-then-not-may_have_last_two c = λ olds has old is_old stands.
+pub returns-then-not-may_have_two : goal.returns-then-not-may_have_two
+returns-then-not-may_have_two c = λ olds has old is_old stands.
     let is_text : path_text c.new-path.result ≡ c.args.text.now = c.new-path.ensures ∙ c.in-Ok.ensures.cases.0 in
-    let two = StandsFor-last_two olds c.args.self.now c.args.file c.args.text.now old has is_old stands in
-    true≢false (sym (rw is_text two) ∙ sym c.may_have_last_two.ensures ∙ c.if-not-may_have_last_two.true)
+    let two = StandsFor-last_two olds c.args.self.now c.args.searched.file c.args.text.now old has is_old stands in
+    true≢false
+    (sym two ∙ sym (ap (may_have_two c.args.self.now) (c.last_two_hash.ensures ∙ ap (λ t. last_two_hash (components t)) is_text))
+    ∙ sym c.may_have_two.ensures ∙ c.if-not-may_have_two.true)
 
 pub returns : goal.returns
 returns c =
-    let file = c.args.file in
+    let file = c.args.searched.file in
     let text = c.args.text.now in
     let is_text : path_text c.new-path.result ≡ c.args.text.now = c.new-path.ensures ∙ c.in-Ok.ensures.cases.0 in
     let named : IsSome (file_name_of (path_text c.new-path.result)) = subst IsSome c.in-Some.ensures.text refl in

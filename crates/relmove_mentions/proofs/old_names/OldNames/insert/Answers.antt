@@ -3,7 +3,8 @@ use Rattle.std.proofs.Common.{string_bytes, ap, arith, sym, ◌∙◌}
 use Rattle.std.proofs.lemmas.Map.Text.{text_keys}
 use Rattle.relative_path.specs.Steps.{components}
 use Rattle.relative_path.specs.Naming.{file_name_of}
-use Rattle.relmove_mentions.specs.Endings.{ending_of, last_two_of}
+use Rattle.relmove_mentions.specs.Endings.{ending_of}
+use Rattle.relmove_mentions.specs.NameHashes.{last_two_hash}
 use Rattle.relative_path.specs.RelativePath.{path_components}
 use Rattle.relmove_mentions.proofs.OldNamesLemmas.{Lists-insert}
 use Rattle.relmove_mentions.proofs.old_names.OldNames.insert.Goals as goal
@@ -27,6 +28,6 @@ returns-clause-lists c = λ names lists.
     (λ hash. (
       λ is.
           c.insert_last_two.ensures.has hash
-          (ap (λ t. last_two_of (components t)) (c.as_relative_path-3.ensures ∙ sym c.into_string-text.ensures.text) ∙ is),
+          (ap (λ t. last_two_hash (components t)) (c.as_relative_path-3.ensures ∙ sym c.into_string-text.ensures.text) ∙ is),
       c.insert_last_two.ensures.keeps hash,
     )) lists

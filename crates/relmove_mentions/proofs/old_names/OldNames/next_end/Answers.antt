@@ -26,7 +26,7 @@ loop-end-preserved c =
       later = λ olds file span old has of is later.
           ends-later olds c.args.self.now file c.args.text.now span old c.args.start end has of is later
           (omega (arith, inv.later olds file span old has of is later))
-          (ap (λ e. may_end c.args.self.now e && is_bounded_after c.args.text.now end) (sym ending)
+          (ap (λ e. is_bounded_after c.args.text.now end && may_end c.args.self.now e) (sym ending)
           ∙ sym c.can_end.ensures ∙ c.if-can_end.false);
     }
 

@@ -20,5 +20,5 @@ loop-start-preserved c = record {
 pub returns : goal.returns
 returns c = λ olds has before.
     let end : c.loop-start.start ≡ c.args.span.end = omega (arith, c.loop-start.invariant.before, c.loop-start-test.false) in
-    subst (λ at. AreMentionsBefore olds c.args.file c.loop-start.mentions.items at 0) end
+    subst (λ at. AreMentionsBefore olds c.args.searched.file c.loop-start.mentions.items at 0) end
     (c.loop-start.invariant.so_far olds has before)

@@ -8,9 +8,9 @@ use Rattle.relmove_mentions.proofs.old_names.OldNames.push_between.Given as goal
 abbrev pub invariant-loop-start : goal.invariant-loop-start
 invariant-loop-start l = record {
   before : l.start ≤ l.span.end;
-  passed : ArePassed l.file.read.now l.passed l.start;
-  so_far : (olds : List (List ℕ)) → Has olds l.self → AreMentionsBefore olds l.file l.fn.mentions.items l.span.start 0
-      → AreMentionsBefore olds l.file l.mentions.items l.start 0;
+  passed : ArePassed l.searched.file.read.now l.passed l.start;
+  so_far : (olds : List (List ℕ)) → Has olds l.self → AreMentionsBefore olds l.searched.file l.fn.mentions.items l.span.start 0
+      → AreMentionsBefore olds l.searched.file l.mentions.items l.start 0;
 }
 
 abbrev pub decreases-loop-start : goal.decreases-loop-start

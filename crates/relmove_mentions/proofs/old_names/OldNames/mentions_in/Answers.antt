@@ -1,13 +1,13 @@
 -- Each turn appends the mentions that begin before the next end.
 use Rattle.std.proofs.Common.{arith, inl, refl}
 use Rattle.relmove_mentions.proofs.MentionsLemmas.{AreMentionsBefore-nil, AreMentionsBefore-skip}
-use Rattle.relmove_mentions.proofs.old_names.OldNames.mentions.Goals as goal
+use Rattle.relmove_mentions.proofs.old_names.OldNames.mentions_in.Goals as goal
 
 pub loop-end-init : goal.loop-end-init
 loop-end-init c = record {
   within = omega arith;
   passed = λ span later. refl;
-  so_far = λ olds has. rw c.new-mentions.ensures.items (AreMentionsBefore-nil olds c.args.file);
+  so_far = λ olds has. rw c.new-mentions.ensures.items (AreMentionsBefore-nil olds c.args.searched.file);
 }
 
 pub loop-end-preserved : goal.loop-end-preserved
@@ -17,11 +17,11 @@ loop-end-preserved c = record {
       c.count_passed-passed.ensures span (omega (arith, later, c.first_start-start.ensures.before));
   so_far = λ olds has.
       c.in_ok-push_between.ensures olds has
-      (AreMentionsBefore-skip olds c.args.file c.loop-end.mentions.items c.loop-end.start c.first_start-start.result
+      (AreMentionsBefore-skip olds c.args.searched.file c.loop-end.mentions.items c.loop-end.start c.first_start-start.result
       c.first_start-start.ensures.after
       (λ span old is later.
-      c.first_start-start.ensures.first olds c.args.file span old has refl is later
-      (c.in-Some.ensures.first olds c.args.file span old has refl is later))
+      c.first_start-start.ensures.first olds c.args.searched.file span old has refl is later
+      (c.in-Some.ensures.first olds c.args.searched.file span old has refl is later))
       (c.loop-end.invariant.so_far olds has));
 }
 
@@ -31,7 +31,7 @@ returns-clause-sound c = λ olds has. (c.loop-end.invariant.so_far olds has).sou
 pub returns-clause-complete : goal.returns-clause-complete
 returns-clause-complete c = λ olds has span old is.
     (c.loop-end.invariant.so_far olds has).complete span old is
-    (inl (c.in_default.ensures.none olds c.args.file span old has refl is))
+    (inl (c.in_default.ensures.none olds c.args.searched.file span old has refl is))
 
 pub returns-clause-in_order : goal.returns-clause-in_order
 returns-clause-in_order c = λ olds has. (c.loop-end.invariant.so_far olds has).in_order

@@ -3,14 +3,14 @@ use Rattle.std.proofs.Common.{◌≤◌, ◌-◌, ℕ, List, length}
 use Rattle.relmove_mentions.specs.Mentions.{AreMentionsBefore}
 use Rattle.relmove_mentions.specs.OldNames.{Has}
 use Rattle.relmove_mentions.specs.Spans.{ArePassed}
-use Rattle.relmove_mentions.proofs.old_names.OldNames.mentions.Given as goal
+use Rattle.relmove_mentions.proofs.old_names.OldNames.mentions_in.Given as goal
 
 abbrev pub invariant-loop-end : goal.invariant-loop-end
 invariant-loop-end l = record {
-  within : l.start ≤ length l.file.text.now;
-  passed : ArePassed l.file.read.now l.passed l.start;
-  so_far : (olds : List (List ℕ)) → Has olds l.self → AreMentionsBefore olds l.file l.mentions.items l.start 0;
+  within : l.start ≤ length l.searched.file.text.now;
+  passed : ArePassed l.searched.file.read.now l.passed l.start;
+  so_far : (olds : List (List ℕ)) → Has olds l.self → AreMentionsBefore olds l.searched.file l.mentions.items l.start 0;
 }
 
 abbrev pub decreases-loop-end : goal.decreases-loop-end
-decreases-loop-end l = length l.file.text.now - l.start
+decreases-loop-end l = length l.searched.file.text.now - l.start
