@@ -1,20 +1,19 @@
 -- What a text ends in is what its file name ends in.
-use Rattle.std.proofs.Common.{◌≡◌, ◌⊎◌, ℕ, zero, suc, cond, ◌+◌, ◌*◌, ◌<◌, ◌≤◌, Bool, true, false, ◌||◌, ◌&&◌, ◌==◌, List, [], ◌∷◌, ◌++◌, map, length, replicate, Some, None, inl, inr, refl, sym, ap, ◌∙◌, subst, true≢false, arith, bytes_eq, filter, length-append}
-use Rattle.std.specs.List.{AllByRecursion, fold, onto_first, slice_split}
+use Rattle.std.proofs.Common.{◌≡◌, ◌⊎◌, ℕ, zero, suc, cond, ◌+◌, ◌*◌, ◌<◌, ◌≤◌, Bool, true, false, ◌||◌, ◌&&◌, ◌==◌, List, [], ◌∷◌, ◌++◌, length, replicate, Some, None, inl, inr, refl, sym, ap, ◌∙◌, subst, true≢false, arith, bytes_eq, get_or-append-add, length-append, get_or, append_assoc}
+use Rattle.std.specs.List.{AllByRecursion, fold}
 use Rattle.std.specs.Char.{digit_value, is_digit}
 use Rattle.std.specs.Prelude.{is_some}
-use Rattle.std.proofs.lemmas.Bool.{agree_below_at, and_parts, cases_Bool, cases_lt, cond-false, cond-true, eqb-true, le-ltb, ltb-true, or_left, or_parts, or_right}
-use Rattle.std.proofs.lemmas.List.{map-append}
-use Rattle.std.proofs.lemmas.List.Elements.{All-from_recursion, filter-append}
-use Rattle.std.proofs.lemmas.List.Splits.{length-slice_split, slice_split_none}
+use Rattle.std.proofs.lemmas.Bool.{agree_below_at, and_parts, cases_Bool, cases_lt, cond-false, cond-true, eq-eqb, eqb-true, le-ltb, ltb-true, or_left, or_parts, or_right}
+use Rattle.std.proofs.lemmas.List.Elements.{All-from_recursion}
+use Rattle.std.proofs.lemmas.List.Splits.{slice_split_none}
 use Rattle.std.proofs.lemmas.List.Sums.{fold-append}
 use Rattle.std.proofs.lemmas.Option.{same_Some}
 use Rattle.std.proofs.lemmas.Slice.Eq.{bytes_eq-Decides}
 use Rattle.percent_encoding.specs.Percent.{is_escape, percent_decode, percent_sign}
-use Rattle.relative_path.specs.Steps.{Step, classed, components, cur, is_not_empty, is_slash, name, pieces, slash, step_text, up}
-use Rattle.relative_path.specs.Editing.{kept}
+use Rattle.relative_path.specs.Steps.{Step, classed, components, cur, is_slash, name, pieces, slash, step_text, up}
+use Rattle.relative_path.specs.Editing.{kept, pushed, with_separator}
 use Rattle.relative_path.specs.Naming.{file_name_of, last_name}
-use Rattle.relative_path.proofs.ForCallers.{components-trailing_slash, last_name-name, last_name-split}
+use Rattle.relative_path.proofs.ForCallers.{components-pushed, components-trailing_slash, last_name-name, last_name-split}
 use Rattle.relmove_mentions.specs.Endings.{ending_of, next_ending, no_ending, with_path_byte}
 use Rattle.relmove_mentions.specs.Spans.{is_other_byte}
 use Rattle.relmove_mentions.specs.declared.endings.Ending.{Ending}
@@ -114,32 +113,27 @@ last_cut (b ∷ text) = elim (last_cut text) [
   ]
 ]
 
-onto_first-append : (b : ℕ) (ps qs : List (List ℕ)) → 0 < length ps → onto_first b (ps ++ qs) ≡ onto_first b ps ++ qs
-onto_first-append b [] qs some = absurd (omega arith)
-onto_first-append b (p ∷ ps) qs some = refl
+-- a text that ends in a slash has its separator
+separated : (front : List ℕ) → with_separator (front ++ slash ∷ []) ≡ front ++ slash ∷ []
+separated [] = refl
+separated (x ∷ xs) = cond-true (get_or (x ∷ xs ++ slash ∷ []) (length (xs ++ slash ∷ [])) 0 == slash) _ _ (eq-eqb _ slash last) where
+  last : get_or (x ∷ xs ++ slash ∷ []) (length (xs ++ slash ∷ [])) 0 ≡ slash
+  last =
+      let at : length (xs ++ slash ∷ []) ≡ length (x ∷ xs) + 0 = omega (arith, length-append xs (slash ∷ [])) in
+      ap (λ n. get_or (x ∷ xs ++ slash ∷ []) n 0) at ∙ get_or-append-add (x ∷ xs) (slash ∷ []) 0 0
 
-slice_split-append : (xs ys : List ℕ)
-    → slice_split is_slash (xs ++ slash ∷ ys) ≡ slice_split is_slash xs ++ slice_split is_slash ys
-slice_split-append [] ys = refl
-slice_split-append (x ∷ xs) ys =
-    let later = slice_split-append xs ys in
-    let some : 0 < length (slice_split is_slash xs) = omega (arith, length-slice_split is_slash xs) in
-    let joined = onto_first-append x (slice_split is_slash xs) (slice_split is_slash ys) some in
-    elim (cases_Bool (is_slash x)) [
-      | inl e ↦ rw (cond-true (is_slash x) _ _ e, cond-true (is_slash x) _ _ e) (ap (λ ps. [] ∷ ps) later)
-      | inr e ↦ rw (cond-false (is_slash x) _ _ e, cond-false (is_slash x) _ _ e) (ap (onto_first x) later ∙ joined)
-    ]
+components-after : (front : List ℕ) (b : ℕ) (bs : List ℕ) → is_slash b ≡ false
+    → components (front ++ slash ∷ b ∷ bs) ≡ components front ++ components (b ∷ bs)
+components-after front b bs plain =
+    let whole : pushed (front ++ slash ∷ []) (b ∷ bs) ≡ front ++ slash ∷ b ∷ bs =
+    ap (λ t. with_separator (front ++ slash ∷ []) ++ t) (cond-false (is_slash b) bs (b ∷ bs) plain)
+    ∙ ap (λ t. t ++ b ∷ bs) (separated front) ∙ append_assoc front (slash ∷ []) (b ∷ bs) in
+    ap components (sym whole) ∙ components-pushed (front ++ slash ∷ []) (b ∷ bs)
+    ∙ ap (λ cs. cs ++ components (b ∷ bs)) (components-trailing_slash front)
 
-components-cut : (xs ys : List ℕ) → components (xs ++ slash ∷ ys) ≡ components xs ++ components ys
+file_name-empty : file_name_of [] ≡ None
 unfolding components pieces
-components-cut xs ys =
-    ap (λ ps. map classed (filter is_not_empty ps)) (slice_split-append xs ys)
-    ∙ ap (map classed) (filter-append is_not_empty (slice_split is_slash xs) (slice_split is_slash ys))
-    ∙ map-append classed (pieces xs) (pieces ys)
-
-components-empty : components [] ≡ []
-unfolding components pieces
-components-empty = refl
+file_name-empty = refl
 
 components-piece : (b : ℕ) (bs : List ℕ) → NoSlash (b ∷ bs) → components (b ∷ bs) ≡ classed (b ∷ bs) ∷ []
 unfolding components pieces
@@ -162,7 +156,7 @@ none_some : {X : Type 0} {x : X} → None ≡ Some x → ⊥
 none_some is = true≢false (sym (ap is_some is))
 
 ends-whole : (text n : List ℕ) → NoSlash text → file_name_of text ≡ Some n → EndsAs text n
-ends-whole [] n none is = absurd (none_some (sym (ap last_name components-empty) ∙ is))
+ends-whole [] n none is = absurd (none_some (sym file_name-empty ∙ is))
 ends-whole (b ∷ bs) n none is = ends-piece [] (b ∷ bs) n (sym (ap last_name (components-piece b bs none)) ∙ is)
 
 -- what comes after a slash ends as by itself
@@ -183,7 +177,7 @@ ends-cut front [] n before none is =
 ends-cut front (b ∷ bs) n before none is =
     let cs = components front in
     let joined : components (front ++ slash ∷ b ∷ bs) ≡ cs ++ classed (b ∷ bs) ∷ [] =
-    components-cut front (b ∷ bs) ∙ ap (λ ds. cs ++ ds) (components-piece b bs none) in
+    components-after front b bs none.0 ∙ ap (λ ds. cs ++ ds) (components-piece b bs none) in
     subst (λ (e : Ending). (e.hash ≡ 46) ⊎ (e.hash ≡ (ending_of n).hash)) (sym (ends-after front b bs none.0))
     (ends-piece cs (b ∷ bs) n (sym (ap last_name joined) ∙ is))
 
