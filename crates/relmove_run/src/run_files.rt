@@ -291,7 +291,7 @@ fn caller_of<S: Store>(store: &mut S) -> Result<Option<u32>, RunFault> {
 // The owner of a file that the call makes, and removes again. `None` if the disk has no room for it.
 fn owner_of_new_file<S: Store>(store: &mut S) -> Result<Option<u32>, RunFault> {
     let file = match store.create(CALLER, PRIVATE) {
-        Err(error) if error.kind() == ErrorKind::StorageFull => return Ok(None),
+        Err(error) if says_no_room(&error) => return Ok(None),
         created => at(store.alloc(), SystemCall::Create, CALLER, created)?,
     };
     let found = store.find_new(&file);
@@ -299,6 +299,11 @@ fn owner_of_new_file<S: Store>(store: &mut S) -> Result<Option<u32>, RunFault> {
     let mut run_file = RunFile::Inode(found.inode);
     remove_run_file(store, CALLER, &mut run_file)?;
     Ok(Some(found.owner))
+}
+
+// Whether an error says that the disk has no room, or that its user may have no more of it.
+fn says_no_room(error: &io::Error) -> bool {
+    error.kind() == ErrorKind::StorageFull || error.kind() == ErrorKind::QuotaExceeded
 }
 
 // Whether a user owns the root, and nobody else may change the names in it.
