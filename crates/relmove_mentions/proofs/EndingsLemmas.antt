@@ -1,5 +1,5 @@
 -- What a text ends in is what its file name ends in.
-use Rattle.std.proofs.Common.{◌≡◌, ◌⊎◌, ℕ, zero, suc, cond, ◌+◌, ◌*◌, ◌<◌, ◌≤◌, Bool, true, false, ◌||◌, ◌&&◌, ◌==◌, List, [], ◌∷◌, ◌++◌, length, replicate, Some, None, inl, inr, refl, sym, ap, ◌∙◌, subst, true≢false, arith, bytes_eq, get_or-append-add, length-append, get_or, append_assoc}
+use Rattle.std.proofs.Common.{◌≡◌, ◌⊎◌, ℕ, zero, suc, cond, ◌+◌, ◌*◌, ◌<◌, ◌≤◌, Bool, true, false, ◌||◌, ◌&&◌, ◌==◌, List, [], ◌∷◌, ◌++◌, length, not, replicate, Some, None, inl, inr, refl, sym, ap, ◌∙◌, subst, true≢false, arith, bytes_eq, get_or-append-add, length-append, get_or, append_assoc}
 use Rattle.std.specs.List.{AllByRecursion, fold}
 use Rattle.std.specs.Char.{digit_value, is_digit}
 use Rattle.std.specs.Prelude.{is_some}
@@ -14,22 +14,31 @@ use Rattle.relative_path.specs.Steps.{Step, classed, components, cur, is_slash, 
 use Rattle.relative_path.specs.Editing.{kept, pushed, with_separator}
 use Rattle.relative_path.specs.Naming.{file_name_of, last_name}
 use Rattle.relative_path.proofs.ForCallers.{components-pushed, components-trailing_slash, last_name-name, last_name-split}
-use Rattle.relmove_mentions.specs.Endings.{ending_of, next_ending, no_ending, with_path_byte}
+use Rattle.relmove_mentions.specs.Endings.{ending_of, has_name, next_ending, no_ending, with_byte}
 use Rattle.relmove_mentions.specs.Spans.{is_other_byte}
 use Rattle.relmove_mentions.specs.declared.endings.Ending.{Ending}
 
 -- ---- one more byte
 
+or_false : (a b : Bool) → a ≡ false → b ≡ false → (a || b) ≡ false
+or_false true b first second = absurd (true≢false first)
+or_false false b first second = second
+
 next-slash : (e : Ending) (b : ℕ) → is_slash b ≡ true
-    → next_ending e b ≡ record { hash = e.hash; encoded = e.encoded; slashed = true }
+    → next_ending e b ≡ record { hash = e.hash; encoded = e.encoded; ended = true }
 next-slash e b is = cond-true (is_slash b) _ _ is
 
-pub next-other : (e : Ending) (b : ℕ) → is_slash b ≡ false → is_other_byte b ≡ true → next_ending e b ≡ no_ending
-next-other e b plain is = cond-false (is_slash b) _ _ plain ∙ cond-true (is_other_byte b) _ _ is
+-- after an end, and at a byte that doesn't go on a path, others begin
+next-anew : (e : Ending) (b : ℕ) → is_slash b ≡ false → (e.ended || is_other_byte b) ≡ true
+    → next_ending e b ≡ with_byte no_ending b
+next-anew e b plain is =
+    cond-false (is_slash b) _ _ plain ∙ ap (λ f. with_byte f b) (cond-true (e.ended || is_other_byte b) no_ending e is)
 
-next-path : (e : Ending) (b : ℕ) → is_slash b ≡ false → is_other_byte b ≡ false
-    → next_ending e b ≡ with_path_byte (cond e.slashed no_ending e) b
-next-path e b plain is = cond-false (is_slash b) _ _ plain ∙ cond-false (is_other_byte b) _ _ is
+next-path : (e : Ending) (b : ℕ) → is_slash b ≡ false → is_other_byte b ≡ false → e.ended ≡ false
+    → next_ending e b ≡ with_byte e b
+next-path e b plain path goes_on =
+    cond-false (is_slash b) _ _ plain
+    ∙ ap (λ f. with_byte f b) (cond-false (e.ended || is_other_byte b) no_ending e (or_false e.ended (is_other_byte b) goes_on path))
 
 -- an other byte is no slash
 pub other-not_slash : (b : ℕ) → is_other_byte b ≡ true → is_slash b ≡ false
@@ -40,13 +49,32 @@ other-not_slash b other = elim (cases_Bool (is_slash b)) [
   | inr plain ↦ plain
 ]
 
--- after slashes, a byte begins a name
-restart : (e : Ending) (b : ℕ) → e.slashed ≡ true → is_slash b ≡ false → next_ending e b ≡ next_ending no_ending b
-restart e b slashed plain = elim (cases_Bool (is_other_byte b)) [
-  | inl other ↦ next-other e b plain other ∙ sym (next-other no_ending b plain other)
-  | inr path ↦
-      next-path e b plain path ∙ ap (λ f. with_path_byte f b) (cond-true e.slashed no_ending e slashed)
-      ∙ sym (next-path no_ending b plain path)
+-- at a byte that doesn't go on a path, the text ends
+pub next-other : (e : Ending) (b : ℕ) → is_slash b ≡ false → is_other_byte b ≡ true → (next_ending e b).ended ≡ true
+next-other e b plain other =
+    ap (λ (f : Ending). f.ended) (next-anew e b plain (or_right e.ended (is_other_byte b) other)) ∙ other
+
+-- so what comes before it doesn't matter
+next-others : (e f : Ending) (b : ℕ) → is_slash b ≡ false → is_other_byte b ≡ true → next_ending e b ≡ next_ending f b
+next-others e f b plain other =
+    next-anew e b plain (or_right e.ended (is_other_byte b) other)
+    ∙ sym (next-anew f b plain (or_right f.ended (is_other_byte b) other))
+
+-- nor after an end
+restart : (e f : Ending) (b : ℕ) → e.ended ≡ true → f.ended ≡ true → is_slash b ≡ false → next_ending e b ≡ next_ending f b
+restart e f b ended also plain =
+    next-anew e b plain (or_left e.ended (is_other_byte b) ended)
+    ∙ sym (next-anew f b plain (or_left f.ended (is_other_byte b) also))
+
+pub fold-ended : (text : List ℕ) (e f : Ending) → e.ended ≡ true → f.ended ≡ true → has_name text ≡ true
+    → fold next_ending e text ≡ fold next_ending f text
+fold-ended [] e f ended also some = absurd (true≢false (sym some))
+fold-ended (b ∷ bs) e f ended also some = elim (cases_Bool (is_slash b)) [
+  | inl slashed ↦
+      fold-ended bs (next_ending e b) (next_ending f b) (ap (λ (g : Ending). g.ended) (next-slash e b slashed))
+      (ap (λ (g : Ending). g.ended) (next-slash f b slashed))
+      (sym (ap (λ c. not c || has_name bs) slashed) ∙ some)
+  | inr plain ↦ ap (λ g. fold next_ending g bs) (restart e f b ended also plain)
 ]
 
 -- ---- the last component
@@ -131,9 +159,33 @@ components-after front b bs plain =
     ap components (sym whole) ∙ components-pushed (front ++ slash ∷ []) (b ∷ bs)
     ∙ ap (λ cs. cs ++ components (b ∷ bs)) (components-trailing_slash front)
 
+none_some : {X : Type 0} {x : X} → None ≡ Some x → ⊥
+none_some is = true≢false (sym (ap is_some is))
+
 file_name-empty : file_name_of [] ≡ None
 unfolding components pieces
 file_name-empty = refl
+
+file_name-slash : (text : List ℕ) → file_name_of (slash ∷ text) ≡ file_name_of text
+unfolding components pieces
+file_name-slash text = refl
+
+-- slashes alone have no file name
+file_name-slashes : (text : List ℕ) → has_name text ≡ false → file_name_of text ≡ None
+file_name-slashes [] none = file_name-empty
+file_name-slashes (b ∷ bs) none = elim (cases_Bool (is_slash b)) [
+  | inl slashed ↦
+      ap (λ c. file_name_of (c ∷ bs)) (eqb-true b slash slashed) ∙ file_name-slash bs
+      ∙ file_name-slashes bs (sym (ap (λ c. not c || has_name bs) slashed) ∙ none)
+  | inr plain ↦ absurd (true≢false (sym (ap (λ c. not c || has_name bs) plain) ∙ none))
+]
+
+-- so a text with a file name has a byte that is no slash
+pub has_name-named : (text n : List ℕ) → file_name_of text ≡ Some n → has_name text ≡ true
+has_name-named text n is = elim (cases_Bool (has_name text)) [
+  | inl some ↦ some
+  | inr none ↦ absurd (none_some (sym (file_name-slashes text none) ∙ is))
+]
 
 components-piece : (b : ℕ) (bs : List ℕ) → NoSlash (b ∷ bs) → components (b ∷ bs) ≡ classed (b ∷ bs) ∷ []
 unfolding components pieces
@@ -152,9 +204,6 @@ ends-piece cs p n is = elim (last_name-piece cs p n is) [
   | inr same ↦ inr (ap (λ t. (ending_of t).hash) same)
 ]
 
-none_some : {X : Type 0} {x : X} → None ≡ Some x → ⊥
-none_some is = true≢false (sym (ap is_some is))
-
 ends-whole : (text n : List ℕ) → NoSlash text → file_name_of text ≡ Some n → EndsAs text n
 ends-whole [] n none is = absurd (none_some (sym file_name-empty ∙ is))
 ends-whole (b ∷ bs) n none is = ends-piece [] (b ∷ bs) n (sym (ap last_name (components-piece b bs none)) ∙ is)
@@ -164,7 +213,7 @@ ends-after : (front : List ℕ) (b : ℕ) (bs : List ℕ) → is_slash b ≡ fal
     → ending_of (front ++ slash ∷ b ∷ bs) ≡ ending_of (b ∷ bs)
 ends-after front b bs plain =
     fold-append next_ending no_ending front (slash ∷ b ∷ bs)
-    ∙ ap (λ e. fold next_ending e bs) (restart (next_ending (ending_of front) slash) b refl plain)
+    ∙ ap (λ e. fold next_ending e bs) (restart (next_ending (ending_of front) slash) no_ending b refl refl plain)
 
 ends-slash : (front : List ℕ) → (ending_of (front ++ slash ∷ [])).hash ≡ (ending_of front).hash
 ends-slash front = ap (λ (e : Ending). e.hash) (fold-append next_ending no_ending front (slash ∷ []))
@@ -200,11 +249,11 @@ ends-name text n is = ends-within (length text) text n (omega arith) is
 
 -- both are equal, or the first has a percent sign and goes on at least as long
 abbrev Follows : Ending → Ending → Type 0
-Follows e f = (e ≡ f) ⊎ ((e.encoded ≡ true) × (e.slashed ≡ true → f.slashed ≡ true))
+Follows e f = (e ≡ f) ⊎ ((e.encoded ≡ true) × (e.ended ≡ true → f.ended ≡ true))
 
--- it has a percent sign, and no slash comes after it
+-- it has a percent sign, and hasn't ended
 abbrev IsEncoded : Ending → Type 0
-IsEncoded e = (e.encoded ≡ true) × (e.slashed ≡ false)
+IsEncoded e = (e.encoded ≡ true) × (e.ended ≡ false)
 
 Follows-encoded : (e f : Ending) → IsEncoded e → Follows e f
 Follows-encoded e f (encoded, plain) = inr (encoded, λ is. absurd (true≢false (sym is ∙ plain)))
@@ -212,21 +261,20 @@ Follows-encoded e f (encoded, plain) = inr (encoded, λ is. absurd (true≢false
 encoded-next : (e : Ending) (b : ℕ) → is_slash b ≡ false → is_other_byte b ≡ false → IsEncoded e
     → IsEncoded (next_ending e b)
 encoded-next e b plain path (encoded, goes_on) =
-    let is : next_ending e b ≡ with_path_byte e b = next-path e b plain path
-    ∙ ap (λ f. with_path_byte f b) (cond-false e.slashed no_ending e goes_on) in (
+    let is : next_ending e b ≡ with_byte e b = next-path e b plain path goes_on in (
       ap (λ (g : Ending). g.encoded) is ∙ or_left e.encoded (b == percent_sign) encoded,
-      ap (λ (g : Ending). g.slashed) is,
+      ap (λ (g : Ending). g.ended) is ∙ path,
     )
 
 Follows-next : (e f : Ending) (b : ℕ) → Follows e f → Follows (next_ending e b) (next_ending f b)
 Follows-next e f b (inl same) = inl (ap (λ g. next_ending g b) same)
 Follows-next e f b (inr (encoded, goes)) = elim (cases_Bool (is_slash b)) [
   | inl is ↦
-      inr (ap (λ (g : Ending). g.encoded) (next-slash e b is) ∙ encoded, λ _. ap (λ (g : Ending). g.slashed) (next-slash f b is))
+      inr (ap (λ (g : Ending). g.encoded) (next-slash e b is) ∙ encoded, λ _. ap (λ (g : Ending). g.ended) (next-slash f b is))
   | inr plain ↦ elim (cases_Bool (is_other_byte b)) [
-    | inl other ↦ inl (next-other e b plain other ∙ sym (next-other f b plain other))
-    | inr path ↦ elim (cases_Bool e.slashed) [
-      | inl slashed ↦ inl (restart e b slashed plain ∙ sym (restart f b (goes slashed) plain))
+    | inl other ↦ inl (next-others e f b plain other)
+    | inr path ↦ elim (cases_Bool e.ended) [
+      | inl ended ↦ inl (restart e f b ended (goes ended) plain)
       | inr goes_on ↦ Follows-encoded (next_ending e b) (next_ending f b) (encoded-next e b plain path (encoded, goes_on))
     ]
   ]
@@ -256,12 +304,10 @@ encoded-digit e b is encoded =
     let (plain, path) = digit-goes_on b is in encoded-next e b plain path encoded
 
 encoded-percent : (e : Ending) → IsEncoded (next_ending e percent_sign)
-encoded-percent e = elim (cases_Bool e.slashed) [
-  | inl slashed ↦ subst IsEncoded (sym (restart e percent_sign slashed refl)) (refl, refl)
+encoded-percent e = elim (cases_Bool e.ended) [
+  | inl ended ↦ subst IsEncoded (sym (restart e no_ending percent_sign ended refl refl)) (refl, refl)
   | inr goes_on ↦
-      let is : next_ending e percent_sign ≡ with_path_byte e percent_sign =
-      ap (λ f. with_path_byte f percent_sign) (cond-false e.slashed no_ending e goes_on) in
-      subst IsEncoded (sym is) (or_right e.encoded true refl, refl)
+      subst IsEncoded (sym (next-path e percent_sign refl refl goes_on)) (or_right e.encoded true refl, refl)
 ]
 
 Follows-escape : (e f : Ending) (b high low v : ℕ) → is_escape b high low ≡ true

@@ -1,5 +1,5 @@
 -- The first of a list with a property, and the elements of a list one after another.
-use Rattle.std.proofs.Common.{◌≡◌, ◌⊎◌, List, [], ◌∷◌, ◌++◌, inl, inr, refl, subst, arith}
+use Rattle.std.proofs.Common.{◌≡◌, ◌⊎◌, List, [], ◌∷◌, ◌++◌, ◌∙◌, inl, inr, refl, subst, sym, arith}
 use Rattle.std.specs.List.{Contains}
 use Rattle.std.proofs.lemmas.List.Elements.{Contains-append_left, Contains-append_right, Contains-append_cases, Contains-push, Contains-push_cases}
 use Rattle.relmove_mentions.specs.First.{IsFirst}
@@ -43,6 +43,14 @@ IsFirst-Contains P (y ∷ ys) x is = elim is [
   | inl (holds, same) ↦ subst (Contains (y ∷ ys)) same (first y ys)
   | inr (not, later) ↦ rest y ys x (IsFirst-Contains P ys x later)
 ]
+
+-- there is only one
+pub IsFirst-unique : {X : Type 0} (P : X → Type 0) (xs : List X) (x y : X) → IsFirst P xs x → IsFirst P xs y → x ≡ y
+IsFirst-unique P [] x y is also = absurd is
+IsFirst-unique P (z ∷ zs) x y (inl (holds, same)) (inl (_, also)) = sym same ∙ also
+IsFirst-unique P (z ∷ zs) x y (inl (holds, same)) (inr (not, later)) = absurd (not holds)
+IsFirst-unique P (z ∷ zs) x y (inr (not, later)) (inl (holds, same)) = absurd (not holds)
+IsFirst-unique P (z ∷ zs) x y (inr (not, later)) (inr (_, also)) = IsFirst-unique P zs x y later also
 
 -- it stays the first if more come after it
 pub IsFirst-append : {X : Type 0} (P : X → Type 0) (xs ys : List X) (x : X) → IsFirst P xs x → IsFirst P (xs ++ ys) x

@@ -6,14 +6,15 @@ use Rattle.std.proofs.lemmas.List.Elements.{All-map, All-push, All-weaker, Conta
 use Rattle.std.proofs.lemmas.List.Quantifiers.{all_pairs_push}
 use Rattle.std.specs.List.{AllPairs, Contains}
 use Rattle.relative_path_places.specs.Views.{view_text}
-use Rattle.relmove_mentions.specs.Mentions.{AreMentionsBefore, IsMention, spans_of}
-use Rattle.relmove_mentions.specs.Endings.{ending_of}
-use Rattle.relmove_mentions.specs.Names.{most_others}
-use Rattle.relmove_mentions.specs.OldNames.{Has, may_end}
+use Rattle.relmove_mentions.specs.Mentions.{AreMentionsBefore, HaveOthersFrom, IsMention, spans_of}
+use Rattle.relmove_mentions.specs.Endings.{IsCandidate, ending_of, may_end}
+use Rattle.relmove_mentions.specs.OldNames.{Has}
+use Rattle.relmove_mentions.specs.declared.hashes.Hashes.{Hashes}
 use Rattle.relmove_mentions.specs.declared.old_names.OldNames.{OldNames}
-use Rattle.relmove_mentions.specs.Spans.{ComesBefore, IsEarlier, is_bounded_after, is_path_byte, others_in, span_bytes}
+use Rattle.relmove_mentions.specs.Spans.{ComesBefore, IsBounded, IsEarlier, is_bounded_after, is_path_byte, others_in, span_bytes}
 use Rattle.relmove_mentions.proofs.SpansLemmas.{ending_of-after, others_in-before, others_in-more, others_in-next, others_in-within}
-use Rattle.relmove_mentions.proofs.WrittenLemmas.{may_end-written}
+use Rattle.relmove_mentions.proofs.OldNamesLemmas.{most_others-Contains}
+use Rattle.relmove_mentions.proofs.WrittenLemmas.{has_name-written, may_end-with_others, may_end-written}
 use Rattle.relmove_mentions.specs.declared.file_text.FileText.{FileText}
 use Rattle.relmove_mentions.specs.declared.mentions.Mention.{Mention}
 use Rattle.relmove_mentions.specs.declared.text_span.TextSpan.{TextSpan}
@@ -150,80 +151,100 @@ AreMentionsBefore-skip olds file mentions start first order none are = record {
   not_before span later (inl before) = omega (arith, before, later)
   not_before span later (inr (same, before)) = omega (arith, before)
 
--- a mention ends where one may end
-pub ends : (olds : List (List ℕ)) (set : OldNames) (file : FileText) (span : TextSpan) (old : List ℕ) → Has olds set
-    → IsMention olds file span old
-    → (may_end set (ending_of (span_bytes file.text.now span)) ≡ true) × (is_bounded_after file.text.now span.end ≡ true)
-ends olds set file span old has is =
-    (may_end-written olds set file (span_bytes file.text.now span) old has is.is_old is.written, is.bounded.after)
+-- if those with bytes that don't go on a path begin at an offset or later, they do from a later one on
+pub HaveOthersFrom-later : (olds : List (List ℕ)) (file : FileText) (start later first : ℕ) → start ≤ later
+    → HaveOthersFrom olds file start first → HaveOthersFrom olds file later first
+HaveOthersFrom-later olds file start later first order from =
+    λ span old is after some. from span old is (omega (arith, order, after)) some
 
--- up to the end of a mention, the bytes from an offset on end as the mention
-pub ends-from : (olds : List (List ℕ)) (set : OldNames) (file : FileText) (text : List ℕ) (span : TextSpan) (old : List ℕ)
-    (start : ℕ) → Has olds set → file.text.now ≡ text → IsMention olds file span old → start ≤ span.start
+-- ---- where a name can stand
+
+-- where an old path is mentioned, one of its names can stand
+pub IsCandidate-mention : (olds : List (List ℕ)) (set : OldNames) (file : FileText) (text : List ℕ) (span : TextSpan)
+    (old : List ℕ) → Has olds set → file.text.now ≡ text → IsMention olds file span old → IsCandidate set.endings text span
+IsCandidate-mention olds set file text span old has of is =
+    subst (λ t. IsCandidate set.endings t span) of
+    (record {
+      bounded = is.bounded;
+      named = has_name-written olds file (span_bytes file.text.now span) old is.written;
+      ends = may_end-written olds set file (span_bytes file.text.now span) old has is.is_old is.written;
+    })
+
+-- and one of those with bytes that don't go on a path, if the mention has some
+pub IsCandidate-with_others : (olds : List (List ℕ)) (set : OldNames) (file : FileText) (text : List ℕ) (span : TextSpan)
+    (old : List ℕ) → Has olds set → file.text.now ≡ text → IsMention olds file span old
+    → 0 < others_in (span_bytes file.text.now span) → IsCandidate set.endings_with_others text span
+IsCandidate-with_others olds set file text span old has of is some =
+    subst (λ t. IsCandidate set.endings_with_others t span) of
+    (record {
+      bounded = is.bounded;
+      named = has_name-written olds file (span_bytes file.text.now span) old is.written;
+      ends =
+          may_end-with_others olds set file (span_bytes file.text.now span) old has is.is_old (omega (arith, some, is.few))
+          is.written;
+    })
+
+-- up to the end of a candidate, the bytes from an offset on end as the candidate
+ends-from : (set : Hashes) (text : List ℕ) (span : TextSpan) (start : ℕ) → IsCandidate set text span → start ≤ span.start
     → (is_bounded_after text span.end && may_end set (ending_of (take (span.end - start) (drop start text)))) ≡ true
-ends-from olds set file text span old start has of is later =
-    subst (λ t. (is_bounded_after t span.end && may_end set (ending_of (take (span.end - start) (drop start t)))) ≡ true) of
-    (and_from _ _ is.bounded.after (ap (may_end set) same ∙ end)) where
-      same : ending_of (take (span.end - start) (drop start file.text.now)) ≡ ending_of (span_bytes file.text.now span)
-      same =
-          ending_of-after file.text.now start span.start span.end later (omega (arith, is.bounded.order)) is.bounded.within
-          is.bounded.before
-
-      end : may_end set (ending_of (span_bytes file.text.now span)) ≡ true
-      end = may_end-written olds set file (span_bytes file.text.now span) old has is.is_old is.written
+ends-from set text span start is later = and_from _ _ is.bounded.after (ap (may_end set) same ∙ is.ends) where
+  same : ending_of (take (span.end - start) (drop start text)) ≡ ending_of (span_bytes text span)
+  same =
+      ending_of-after text start span.start span.end later (omega (arith, is.bounded.order)) is.bounded.within
+      is.bounded.before is.named
 
 -- so none ends where they can't end
-pub ends-later : (olds : List (List ℕ)) (set : OldNames) (file : FileText) (text : List ℕ) (span : TextSpan) (old : List ℕ)
-    (start end : ℕ) → Has olds set → file.text.now ≡ text → IsMention olds file span old → start ≤ span.start
-    → end ≤ span.end
-    → (is_bounded_after text end && may_end set (ending_of (take (end - start) (drop start text)))) ≡ false
-    → end < span.end
-ends-later olds set file text span old start end has of is later order none = elim (cases_lt end span.end) [
+pub ends-later : (set : Hashes) (text : List ℕ) (span : TextSpan) (start end : ℕ) → IsCandidate set text span
+    → start ≤ span.start → end ≤ span.end
+    → (is_bounded_after text end && may_end set (ending_of (take (end - start) (drop start text)))) ≡ false → end < span.end
+ends-later set text span start end is later order none = elim (cases_lt end span.end) [
   | inl less ↦ less
   | inr more ↦
       let same : span.end ≡ end = omega (arith, order, more) in
       absurd (true≢false (sym (subst
       (λ e. (is_bounded_after text e && may_end set (ending_of (take (e - start) (drop start text)))) ≡ true) same
-      (ends-from olds set file text span old start has of is later)) ∙ none))
+      (ends-from set text span start is later)) ∙ none))
 ]
 
--- a mention doesn't begin before bytes of which it could have all but one
-pub begins-after_other : (olds : List (List ℕ)) (file : FileText) (text : List ℕ) (span : TextSpan) (old : List ℕ)
-    (first end left most : ℕ) → file.text.now ≡ text → IsMention olds file span old → 0 < first → first ≤ end
-    → end ≤ span.end → left ≡ 0 → is_path_byte (get_or text (first - 1) 0) ≡ false
-    → others_in (take (end - first) (drop first text)) + left ≡ most → most ≡ most_others olds → first ≤ span.start
-begins-after_other olds file text span old first end left most of is some order within none other count has =
+-- ---- how many bytes that don't go on a path a span has at most
+
+-- it doesn't begin before bytes of which it could have all but one
+pub begins-after_other : (text : List ℕ) (span : TextSpan) (first end left most : ℕ) → IsBounded text span
+    → others_in (span_bytes text span) ≤ most → 0 < first → first ≤ end → end ≤ span.end → left ≡ 0
+    → is_path_byte (get_or text (first - 1) 0) ≡ false → others_in (take (end - first) (drop first text)) + left ≡ most
+    → first ≤ span.start
+begins-after_other text span first end left most bounded few some order within none other count =
     elim (cases_lt span.start first) [
       | inr later ↦ later
       | inl less ↦
           let last : first - 1 + 1 ≡ first = omega (arith, some) in
-          let inside : span.end ≤ length text = subst (λ t. span.end ≤ length t) of is.bounded.within in
-          let few : others_in (span_bytes text span) ≤ most_others olds =
-          subst (λ t. others_in (span_bytes t span) ≤ most_others olds) of is.few in
           let more : others_in (take (end - (first - 1)) (drop (first - 1) text))
           ≡ 1 + others_in (take (end - first) (drop first text)) =
-          others_in-before text (first - 1) end (omega (arith, some, order)) (omega (arith, within, inside))
+          others_in-before text (first - 1) end (omega (arith, some, order)) (omega (arith, within, bounded.within))
           ∙ ap (λ b. cond (not b) 1 0 + others_in (take (end - (first - 1 + 1)) (drop (first - 1 + 1) text))) other
           ∙ ap (λ at. 1 + others_in (take (end - at) (drop at text))) last in
           let longer = others_in-within text span.start (first - 1) end span.end (omega (arith, some, less))
           (omega (arith, order)) within in
-          absurd (omega (arith, more, longer, few, none, count, has))
+          absurd (omega (arith, more, longer, few, none, count))
     ]
 
--- a mention doesn't go on past a byte that is one too many
-pub ends-before_other : (olds : List (List ℕ)) (file : FileText) (span : TextSpan) (old : List ℕ) (start end left most : ℕ)
-    → IsMention olds file span old → span.start ≡ start → start ≤ end → end < length file.text.now → left ≡ 0
-    → is_path_byte (get_or file.text.now end 0) ≡ false
-    → others_in (take (end - start) (drop start file.text.now)) + left ≡ most → most ≡ most_others olds
+-- it doesn't go on past a byte that is one too many
+pub ends-before_other : (text : List ℕ) (span : TextSpan) (start end left most : ℕ)
+    → others_in (span_bytes text span) ≤ most → span.start ≡ start → start ≤ end → end < length text → left ≡ 0
+    → is_path_byte (get_or text end 0) ≡ false → others_in (take (end - start) (drop start text)) + left ≡ most
     → span.end < end + 1
-ends-before_other olds file span old start end left most is same order within none other count has =
+ends-before_other text span start end left most few same order within none other count =
     elim (cases_lt span.end (end + 1)) [
       | inl less ↦ less
       | inr more ↦
-          let next = others_in-next file.text.now start end order within other in
-          let longer =
-          others_in-more (drop start file.text.now) (end + 1 - start) (span.end - start) (omega (arith, more)) in
-          let few : others_in (take (span.end - start) (drop start file.text.now)) ≤ most_others olds =
-          subst (λ at. others_in (take (span.end - at) (drop at file.text.now)) ≤ most_others olds) same is.few in
-          absurd (omega (arith, next, longer, few, none, count, has))
+          let next = others_in-next text start end order within other in
+          let longer = others_in-more (drop start text) (end + 1 - start) (span.end - start) (omega (arith, more)) in
+          let at_most : others_in (take (span.end - start) (drop start text)) ≤ most =
+          subst (λ at. others_in (take (span.end - at) (drop at text)) ≤ most) same few in
+          absurd (omega (arith, next, longer, at_most, none, count))
     ]
+
+-- a mention has no more than the old path that has most
+pub few-most : (olds : List (List ℕ)) (set : OldNames) (file : FileText) (span : TextSpan) (old : List ℕ) → Has olds set
+    → IsMention olds file span old → others_in (span_bytes file.text.now span) ≤ set.most_others
+few-most olds set file span old has is = omega (arith, is.few, most_others-Contains olds old is.is_old, has.most)

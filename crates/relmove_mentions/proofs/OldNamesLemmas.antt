@@ -1,12 +1,14 @@
 -- The names that a set of old paths has, and what it finds by them.
 use Rattle.std.proofs.Common.{◌≡◌, ◌⊎◌, ℕ, ◌<◌, Bool, true, false, List, [], ◌∷◌, ◌++◌, map, Option, Some, None, IsSome, unwrap_or, cond, inl, inr, refl, sym, ap, ◌∙◌, subst, true≢false, arith, append_assoc, codes, get_or, length, max, not, ◌||◌, take, ◌+◌, ◌*◌, ◌%◌, ◌^◌, ◌≤◌}
 use Rattle.std.specs.BTreeMap.{get_by_text}
-use Rattle.std.specs.List.{Contains}
+use Rattle.std.specs.Prelude.{IfNone, IfSome, MatchOption, ⊤}
+use Rattle.std.specs.List.{Contains, fold}
 use Rattle.std.specs.Map.{update}
 use Rattle.std.specs.Option.{option_map}
 use Rattle.std.specs.Str.{bytes_eq}
 use Rattle.std.proofs.lemmas.List.{flat_map_more, length-map, map-append, map_more, take_all}
 use Rattle.std.proofs.Math.ListN.{get_or-map}
+use Rattle.std.proofs.Math.Nat.{le-max_left, le-max_right}
 use Rattle.std.proofs.lemmas.List.Sums.{fold-append}
 use Rattle.std.proofs.lemmas.List.Elements.{Contains-append_left, Contains-append_right, Contains-get_or, Contains-push_cases}
 use Rattle.std.proofs.lemmas.Option.{same_Some}
@@ -22,7 +24,7 @@ use Rattle.relative_path.proofs.ForCallers.{IsNormal-push_name, IsNormalForm-som
 use Rattle.relative_path_places.proofs.ForCallers.{IsNormalTextOf-same, normal_unique}
 use Rattle.relative_path_places.specs.Views.{view_text}
 use Rattle.relative_path_places.specs.declared.normal_view.NormalView.{NormalView}
-use Rattle.relmove_mentions.proofs.FirstLemmas.{IsFirst-Contains, IsFirst-append, IsFirst-append_cases, IsFirst-holds, IsFirst-push, first, first_or_rest, rest}
+use Rattle.relmove_mentions.proofs.FirstLemmas.{IsFirst-Contains, IsFirst-append, IsFirst-append_cases, IsFirst-holds, IsFirst-push, IsFirst-unique, first, first_or_rest, rest}
 use Rattle.relmove_mentions.specs.Bases.{base_components, base_text}
 use Rattle.relmove_mentions.specs.NameHashes.{hash_of, last_hash, last_two_hash, name_alone, two_hash}
 use Rattle.relmove_mentions.specs.declared.bases.Base.{Base}
@@ -30,7 +32,7 @@ use Rattle.relmove_mentions.specs.First.{IsFirst}
 use Rattle.relmove_mentions.specs.Hashes.{may_have}
 use Rattle.relmove_mentions.specs.Names.{bare_names, directory_names, has_steps, index_names, is_bare_name, is_index_page, is_page, most_others, names_of, page_names}
 use Rattle.relmove_mentions.specs.Spans.{others_in}
-use Rattle.relmove_mentions.specs.OldNames.{Finds, Has, HasLastName, HasText, Lists, PathName, all_names, may_have_two, with_names}
+use Rattle.relmove_mentions.specs.OldNames.{Finds, Has, HasLastName, HasText, Lists, PathName, WithOthers, all_names, may_have_two, with_names}
 use Rattle.relmove_mentions.specs.Written.{LeadsFrom, LeadsToName, LeadsToPath, StandsFor}
 use Rattle.relmove_mentions.specs.declared.file_text.FileText.{FileText}
 use Rattle.relmove_mentions.specs.declared.old_names.OldNames.{OldNames}
@@ -42,10 +44,10 @@ abbrev pub IsInserted : OldNames → OldNames → List ℕ → NormalView → Ty
 IsInserted old new text path = (other : List ℕ) → get_by_text new.by_text other
     ≡ update bytes_eq (get_by_text old.by_text) text (Some (unwrap_or (get_by_text old.by_text text) path)) other
 
--- the set has the last name of the text, and those that it had
-abbrev pub HasLast : OldNames → OldNames → List ℕ → Type 0
-HasLast old new text = (n : List ℕ) → (file_name_of text ≡ Some n → HasLastName new n)
-    × (HasLastName old n → HasLastName new n)
+-- the set has the last name of the text as one of this path, and those that it had
+abbrev pub HasLast : OldNames → OldNames → List ℕ → List ℕ → Type 0
+HasLast old new text path = (n : List ℕ) → (file_name_of text ≡ Some n → HasLastName new path n)
+    × ((other : List ℕ) → HasLastName old other n → HasLastName new other n)
 
 -- the set has the last two names of the text, and those that it had
 abbrev pub HasLastTwo : OldNames → OldNames → List ℕ → Type 0
@@ -88,7 +90,7 @@ last_two-normal steps front d n text normal same =
     ap last_two_hash is ∙ two_names ds d n
 
 pub Lists-insert : (names : List PathName) (path : NormalView) (name : List Step) (old new : OldNames)
-    (text : List ℕ) → IsNormalTextOf name text → IsInserted old new text path → HasLast old new text
+    (text : List ℕ) → IsNormalTextOf name text → IsInserted old new text path → HasLast old new text (view_text path)
     → HasLastTwo old new text → Lists names old → Lists (names ++ (view_text path, name) ∷ []) new
 Lists-insert names path name old new text normal inserted has_last has_two lists =
     record { only = only; each = each; last = last; last_two = last_two } where
@@ -149,13 +151,14 @@ Lists-insert names path name old new text normal inserted has_last has_two lists
       ]
 
       last : (o : List ℕ) (steps front : List Step) (n : List ℕ) → Contains more (o, steps)
-          → IsSame (front ++ named n ∷ []) steps → HasLastName new n
+          → IsSame (front ++ named n ∷ []) steps → HasLastName new o n
       last o steps front n has same = elim (Contains-push_cases names (view_text path, name) (o, steps) has) [
-        | inl before ↦ (has_last n).1 (lists.last o steps front n before same)
+        | inl before ↦ (has_last n).1 o (lists.last o steps front n before same)
         | inr is ↦
             let of_name : IsSame (front ++ named n ∷ []) name =
             subst (IsSame (front ++ named n ∷ [])) (sym (ap (λ pair. pair.1) is)) same in
-            (has_last n).0 (last_name-normal name front n text normal of_name)
+            subst (λ p. HasLastName new p n) (ap (λ (pair : PathName). pair.0) is)
+            ((has_last n).0 (last_name-normal name front n text normal of_name))
       ]
 
       last_two : (o : List ℕ) (steps front : List Step) (d n : List ℕ) → Contains more (o, steps)
@@ -342,6 +345,29 @@ pub most_others-push : (olds : List (List ℕ)) (old : List ℕ)
     → most_others (olds ++ old ∷ []) ≡ max (most_others olds) (others_in old)
 most_others-push olds old = fold-append (λ most o. max most (others_in o)) 0 olds (old ∷ [])
 
+-- no path has more than the most
+most_others-within : (most : ℕ) (olds : List (List ℕ)) → most ≤ fold (λ m o. max m (others_in o)) most olds
+most_others-within most [] = omega arith
+most_others-within most (o ∷ olds) =
+    omega (arith, most_others-within (max most (others_in o)) olds, le-max_left most (others_in o))
+
+most_others-from : (most : ℕ) (olds : List (List ℕ)) (old : List ℕ) → Contains olds old
+    → others_in old ≤ fold (λ m o. max m (others_in o)) most olds
+most_others-from most [] old (k, within, is) = absurd (omega (arith, within))
+most_others-from most (o ∷ olds) old has = elim (first_or_rest o olds old has) [
+  | inl is ↦
+      omega (
+        arith,
+        most_others-within (max most (others_in o)) olds,
+        le-max_right most (others_in o),
+        ap others_in is,
+      )
+  | inr later ↦ most_others-from (max most (others_in o)) olds old later
+]
+
+pub most_others-Contains : (olds : List (List ℕ)) (old : List ℕ) → Contains olds old → others_in old ≤ most_others olds
+most_others-Contains olds old has = most_others-from 0 olds old has
+
 -- the paths up to the next one
 next-views : (olds : List NormalView) (i : ℕ) (old : NormalView) → i < length olds → old ≡ get_or olds i old
     → map view_text (take (i + 1) olds) ≡ map view_text (take i olds) ++ view_text old ∷ []
@@ -373,23 +399,54 @@ Has-end olds i set end lists most = record {
 
 -- ---- a search
 
-pub Finds-get : (olds : List (List ℕ)) (set : OldNames) (cs : List Step) (text : List ℕ) (found : Option NormalView)
-    → Has olds set → IsNormalTextOf cs text → found ≡ get_by_text set.by_text text → Finds olds (LeadsToPath olds cs) found
-Finds-get olds set cs text (Some path) has normal is =
-    let (name, is_first) = has.lists.only text path (sym is) in
-    let leads : LeadsToPath olds cs (view_text path) =
-    first_path olds cs text (view_text path, name) normal is_first in
-    (IsFirst-Contains (LeadsToName cs) olds (view_text path) leads, leads)
-Finds-get olds set cs text None has normal is = λ old is_old first_leads.
-    let leads : LeadsToName cs old = IsFirst-holds (LeadsToName cs) olds old first_leads in
-    let listed = all_names-Contains olds old leads.name is_old leads.is_name in
-    let of = normal_of_name cs text old normal leads in
-    absurd (true≢false (sym (subst IsSome (sym is) (has.lists.each old leads.name text listed of))))
+-- a path under the normal text of components is that to which they lead
+leads-get : (olds : List (List ℕ)) (set : OldNames) (cs : List Step) (text : List ℕ) (path : NormalView) → Has olds set
+    → IsNormalTextOf cs text → get_by_text set.by_text text ≡ Some path → LeadsToPath olds cs (view_text path)
+leads-get olds set cs text path has normal is =
+    let (name, is_first) = has.lists.only text path is in
+    first_path olds cs text (view_text path, name) normal is_first
+
+-- it is found if it has so many bytes that don't go on a path
+Finds-some : (olds : List (List ℕ)) (set : OldNames) (cs : List Step) (text : List ℕ) (others : ℕ) (path : NormalView)
+    → Has olds set → IsNormalTextOf cs text → get_by_text set.by_text text ≡ Some path → others ≤ others_in (view_text path)
+    → Finds olds (WithOthers others (LeadsToPath olds cs)) (Some path)
+Finds-some olds set cs text others path has normal is some =
+    let leads = leads-get olds set cs text path has normal is in
+    (IsFirst-Contains (LeadsToName cs) olds (view_text path) leads, (some, leads))
+
+-- if it has fewer, or there is none, none is found
+Finds-none : (olds : List (List ℕ)) (set : OldNames) (cs : List Step) (text : List ℕ) (others : ℕ) → Has olds set
+    → IsNormalTextOf cs text
+    → MatchOption (get_by_text set.by_text text) ⊤ (λ path. others_in (view_text path) < others)
+    → Finds olds (WithOthers others (LeadsToPath olds cs)) None
+Finds-none olds set cs text others has normal few = of (get_by_text set.by_text text) refl few where
+  of : (got : Option NormalView) → get_by_text set.by_text text ≡ got
+      → MatchOption got ⊤ (λ path. others_in (view_text path) < others)
+      → Finds olds (WithOthers others (LeadsToPath olds cs)) None
+  of None is few = λ old is_old (some, first_leads).
+      let leads : LeadsToName cs old = IsFirst-holds (LeadsToName cs) olds old first_leads in
+      let listed = all_names-Contains olds old leads.name is_old leads.is_name in
+      let of = normal_of_name cs text old normal leads in
+      true≢false (sym (subst IsSome is (has.lists.each old leads.name text listed of)))
+  of (Some path) is few = λ old is_old (some, leads).
+      let same : view_text path ≡ old =
+      IsFirst-unique (LeadsToName cs) olds (view_text path) old (leads-get olds set cs text path has normal is) leads in
+      omega (arith, some, few, ap others_in same)
+
+-- what is found under the normal text of components
+pub Finds-got : (olds : List (List ℕ)) (set : OldNames) (cs : List Step) (text : List ℕ) (others : ℕ)
+    (found : Option NormalView) → Has olds set → IsNormalTextOf cs text
+    → IfSome found (λ path. (get_by_text set.by_text text ≡ Some path) × (others ≤ others_in (view_text path)))
+    → IfNone found (MatchOption (get_by_text set.by_text text) ⊤ (λ path. others_in (view_text path) < others))
+    → Finds olds (WithOthers others (LeadsToPath olds cs)) found
+Finds-got olds set cs text others (Some path) has normal some none =
+    let (is, enough) = some in Finds-some olds set cs text others path has normal is enough
+Finds-got olds set cs text others None has normal some none = Finds-none olds set cs text others has normal none
 
 -- the set has what such a text ends in, if it has that of each name of an old path to which the text leads from a directory
 StandsFor-ends : (olds : List (List ℕ)) (file : FileText) (text : List ℕ) (end : List Step) (old : List ℕ) (P : Type 0)
     → Contains olds old → IsSame (components text) end → StandsFor olds file text old
-    → ((o : List ℕ) (steps front : List Step) → Contains (all_names olds) (o, steps) → IsSame (front ++ end) steps → P) → P
+    → ((steps front : List Step) → Contains (all_names olds) (old, steps) → IsSame (front ++ end) steps → P) → P
 StandsFor-ends olds file text end old P is_old same stands then = elim stands.leads [
   | inl (below, from) ↦ found from.directory from.leads
   | inr (some, from) ↦ found from.directory from.leads
@@ -398,17 +455,17 @@ StandsFor-ends olds file text end old P is_old same stands then = elim stands.le
   found directory first_leads =
       let leads : LeadsToName (directory ++ components text) old =
       IsFirst-holds (LeadsToName (directory ++ components text)) olds old first_leads in
-      then old leads.name directory (all_names-Contains olds old leads.name is_old leads.is_name)
+      then leads.name directory (all_names-Contains olds old leads.name is_old leads.is_name)
       (IsSame-trans (IsSame-sym (IsSame-append_left directory same)) leads.same)
 
 -- the set has the last name of a text that stands for an old path
 pub StandsFor-last : (olds : List (List ℕ)) (set : OldNames) (file : FileText) (text n old : List ℕ) → Has olds set
-    → Contains olds old → file_name_of text ≡ Some n → StandsFor olds file text old → HasLastName set n
+    → Contains olds old → file_name_of text ≡ Some n → StandsFor olds file text old → HasLastName set old n
 StandsFor-last olds set file text n old has is_old is stands =
-    StandsFor-ends olds file text (kept (components text) ++ named n ∷ []) old (HasLastName set n) is_old
+    StandsFor-ends olds file text (kept (components text) ++ named n ∷ []) old (HasLastName set old n) is_old
     (IsSame-last_name (components text) n is) stands
-    (λ o steps front listed same.
-    has.lists.last o steps (front ++ kept (components text)) n listed
+    (λ steps front listed same.
+    has.lists.last old steps (front ++ kept (components text)) n listed
     (subst (λ cs. IsSame cs steps) (sym (append_assoc front (kept (components text)) (named n ∷ []))) same))
 
 -- a list that ends in a name after a list with a last name
@@ -434,8 +491,8 @@ StandsFor-last_two olds set file text old has is_old stands =
           let front = kept (kept cs) in
           let same : IsSame cs (front ++ named d ∷ named n ∷ []) = IsSame-two cs (kept cs) d n (IsSame-last_name cs n is) above in
           StandsFor-ends olds file text (front ++ named d ∷ named n ∷ []) old _ is_old same stands
-          (λ o steps base listed leads.
-          has.lists.last_two o steps (base ++ front) d n listed
+          (λ steps base listed leads.
+          has.lists.last_two old steps (base ++ front) d n listed
           (subst (λ ds. IsSame ds steps) (sym (append_assoc base front (named d ∷ named n ∷ []))) leads))
 
 has_steps-none : (cs : List Step) → has_steps cs ≡ false → cs ≡ []
@@ -517,10 +574,11 @@ Finds-map olds P Q None to from none = λ old is_old holds. none old is_old (fro
 Finds-map olds P Q (Some path) to from (is_old, holds) = (is_old, to (view_text path) is_old holds)
 
 -- if nothing is found for the first, what is found for the second is found for either
-pub Finds-second : (olds : List (List ℕ)) (P Q : List ℕ → Type 0) (found : Option NormalView) → Finds olds P None
-    → Finds olds Q found → Finds olds (λ old. P old ⊎ Q old) found
-Finds-second olds P Q None first second = λ old is_old holds. elim holds [
-  | inl one ↦ first old is_old one
-  | inr other ↦ second old is_old other
+pub Finds-second : (olds : List (List ℕ)) (others : ℕ) (P Q : List ℕ → Type 0) (found : Option NormalView)
+    → Finds olds (WithOthers others P) None → Finds olds (WithOthers others Q) found
+    → Finds olds (WithOthers others (λ old. P old ⊎ Q old)) found
+Finds-second olds others P Q None none next = λ old is_old (some, holds). elim holds [
+  | inl one ↦ none old is_old (some, one)
+  | inr other ↦ next old is_old (some, other)
 ]
-Finds-second olds P Q (Some path) first (is_old, holds) = (is_old, inr holds)
+Finds-second olds others P Q (Some path) none (is_old, (some, holds)) = (is_old, (some, inr holds))

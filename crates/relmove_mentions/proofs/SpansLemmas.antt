@@ -1,15 +1,16 @@
 -- Spans in order, and the bytes of a span that aren't path bytes.
 use Rattle.std.proofs.Common.{◌≡◌, ◌==◌, ◌++◌, inl, inr, ℕ, zero, suc, cond, ◌+◌, ◌-◌, ◌<◌, ◌≤◌, Bool, true, false, not, ◌||◌, ◌&&◌, List, [], ◌∷◌, length, take, drop, get_or, refl, sym, ap, ◌∙◌, subst, arith, length-drop, drop-cons}
 use Rattle.std.specs.Prelude.{nat_le}
-use Rattle.std.specs.List.{fold, list_all}
+use Rattle.std.specs.List.{list_all}
 use Rattle.std.proofs.lemmas.Bool.{cases_lt, eqb-true, le-leb, or_cases}
 use Rattle.std.proofs.lemmas.List.{drop-drop, get_or-drop, take-take}
 use Rattle.std.proofs.lemmas.List.Sums.{fold-append, fold_more, sum_by-append, sum_by-cons, sum_by-take-le, sum_by_more}
 use Rattle.std.proofs.Math.ListN.{drop_of_length-le}
 use Rattle.std.proofs.Math.Seq.{take-add}
-use Rattle.relmove_mentions.proofs.EndingsLemmas.{next-other, other-not_slash}
-use Rattle.relmove_mentions.specs.Endings.{ending_of, next_ending, no_ending}
+use Rattle.relmove_mentions.proofs.EndingsLemmas.{fold-ended, next-other, other-not_slash}
+use Rattle.relmove_mentions.specs.Endings.{ending_of, has_name, next_ending, no_ending}
 use Rattle.relmove_mentions.specs.Spans.{ArePassed, FollowFrom, is_apart, is_bounded_before, is_other_byte, is_path_byte, others_in}
+use Rattle.relmove_mentions.specs.declared.endings.Ending.{Ending}
 use Rattle.relmove_mentions.specs.declared.text_span.TextSpan.{TextSpan}
 
 -- ---- spans in order
@@ -162,9 +163,9 @@ ending_of-none text start = let none : start - start ≡ 0 = omega arith in ap (
 
 -- bytes before a bound don't matter
 pub ending_of-after : (text : List ℕ) (start mid end : ℕ) → start ≤ mid → mid ≤ end → end ≤ length text
-    → is_bounded_before text mid ≡ true
+    → is_bounded_before text mid ≡ true → has_name (take (end - mid) (drop mid text)) ≡ true
     → ending_of (take (end - start) (drop start text)) ≡ ending_of (take (end - mid) (drop mid text))
-ending_of-after text start mid end order within inside bounded = elim (cases_lt start mid) [
+ending_of-after text start mid end order within inside bounded named = elim (cases_lt start mid) [
   | inr same ↦
       let is : start ≡ mid = omega (arith, order, same) in
       ap (λ at. ending_of (take (end - at) (drop at text))) is
@@ -172,13 +173,16 @@ ending_of-after text start mid end order within inside bounded = elim (cases_lt 
     | inl none ↦ absurd (let is = eqb-true mid 0 none in omega (arith, less, is))
     | inr other ↦
         let last : mid - 1 + 1 ≡ mid = omega (arith, less) in
-        let reset : ending_of (take (mid - start) (drop start text)) ≡ no_ending =
+        let before : ending_of (take (mid - start) (drop start text))
+        ≡ next_ending (ending_of (take (mid - 1 - start) (drop start text))) (get_or text (mid - 1) 0) =
         ap (λ at. ending_of (take (at - start) (drop start text))) (sym last)
-        ∙ ending_of-next text start (mid - 1) (omega (arith, less)) (omega (arith, less, within, inside))
+        ∙ ending_of-next text start (mid - 1) (omega (arith, less)) (omega (arith, less, within, inside)) in
+        let ended : (ending_of (take (mid - start) (drop start text))).ended ≡ true =
+        ap (λ (e : Ending). e.ended) before
         ∙ next-other _ (get_or text (mid - 1) 0) (other-not_slash (get_or text (mid - 1) 0) other) other in
         ap ending_of (take-after text start mid end order within)
         ∙ fold-append next_ending no_ending (take (mid - start) (drop start text)) (take (end - mid) (drop mid text))
-        ∙ ap (λ e. fold next_ending e (take (end - mid) (drop mid text))) reset
+        ∙ fold-ended (take (end - mid) (drop mid text)) (ending_of (take (mid - start) (drop start text))) no_ending ended refl named
   ]
 ]
 

@@ -1,31 +1,35 @@
 -- When a text stands for an old path, and when bytes write one.
-use Rattle.std.proofs.Common.{◌≡◌, ◌⊎◌, ℕ, Bool, true, false, ◌||◌, ◌==◌, List, [], ◌∷◌, Option, None, Some, IsSome, inl, inr, refl, sym, ap, ◌∙◌, subst, true≢false}
+use Rattle.std.proofs.Common.{◌≡◌, ◌⊎◌, ◌<◌, ℕ, Bool, not, true, false, ◌||◌, ◌==◌, List, [], ◌∷◌, Option, None, Some, IsSome, inl, inr, refl, sym, ap, ◌∙◌, subst, true≢false}
 use Rattle.std.specs.List.{Contains, list_any}
 use Rattle.std.specs.Str.{IsUtf8}
-use Rattle.std.proofs.lemmas.Bool.{eq-eqb, eqb-false}
+use Rattle.std.proofs.lemmas.Bool.{cases_Bool, eq-eqb, eqb-false, eqb-true}
 use Rattle.percent_encoding.specs.Percent.{percent_decode, percent_sign}
 use Rattle.percent_encoding.proofs.PercentLemmas.{percent_decode-nil, percent_decode_not_percent}
-use Rattle.relative_path.specs.Steps.{dot}
+use Rattle.relative_path.specs.Steps.{dot, is_slash, slash}
 use Rattle.relative_path.specs.Naming.{file_name_of}
 use Rattle.relative_path_places.specs.declared.normal_view.NormalView.{NormalView}
-use Rattle.relmove_mentions.specs.Endings.{ending_of}
+use Rattle.relmove_mentions.specs.Endings.{ending_of, has_name, may_end}
 use Rattle.relmove_mentions.specs.Hashes.{may_have}
-use Rattle.relmove_mentions.specs.OldNames.{Finds, Has, may_end}
+use Rattle.relmove_mentions.specs.OldNames.{Finds, Has, WithOthers}
+use Rattle.relmove_mentions.specs.Spans.{others_in}
 use Rattle.relmove_mentions.specs.Written.{IsWritten, LeadsFromDirectory, LeadsFromTop, StandsFor}
 use Rattle.relmove_mentions.specs.declared.file_text.FileText.{FileText}
 use Rattle.relmove_mentions.specs.declared.endings.Ending.{Ending}
+use Rattle.relmove_mentions.specs.declared.hashes.Hashes.{Hashes}
 use Rattle.relmove_mentions.specs.declared.old_names.OldNames.{OldNames}
-use Rattle.relmove_mentions.proofs.EndingsLemmas.{ends-decoded, ends-name}
+use Rattle.relmove_mentions.proofs.EndingsLemmas.{ends-decoded, ends-name, has_name-named}
 use Rattle.relmove_mentions.proofs.OldNamesLemmas.{Finds-map, Finds-second, StandsFor-last}
 
 -- a text that ends in a name stands for the path to which it leads
-pub Finds-text : (olds : List (List ℕ)) (file : FileText) (text : List ℕ) (found : Option NormalView) → IsUtf8 text
-    → IsSome (file_name_of text)
-    → Finds olds (λ old. LeadsFromDirectory olds file text old ⊎ LeadsFromTop olds file text old) found
-    → Finds olds (StandsFor olds file text) found
-Finds-text olds file text found utf8 named finds =
-    Finds-map olds (λ old. LeadsFromDirectory olds file text old ⊎ LeadsFromTop olds file text old) (StandsFor olds file text) found
-    (λ old is_old leads. record { utf8 = utf8; named = named; leads = leads }) (λ old stands. stands.leads) finds
+pub Finds-text : (olds : List (List ℕ)) (file : FileText) (others : ℕ) (text : List ℕ) (found : Option NormalView)
+    → IsUtf8 text → IsSome (file_name_of text)
+    → Finds olds (WithOthers others (λ old. LeadsFromDirectory olds file text old ⊎ LeadsFromTop olds file text old)) found
+    → Finds olds (WithOthers others (StandsFor olds file text)) found
+Finds-text olds file others text found utf8 named finds =
+    Finds-map olds (WithOthers others (λ old. LeadsFromDirectory olds file text old ⊎ LeadsFromTop olds file text old))
+    (WithOthers others (StandsFor olds file text)) found
+    (λ old is_old (some, leads). (some, record { utf8 = utf8; named = named; leads = leads }))
+    (λ old (some, stands). (some, stands.leads)) finds
 
 -- bytes without a percent sign are decoded to themselves
 pub percent_decode-plain : (bytes : List ℕ) → list_any (λ b. b == percent_sign) bytes ≡ false → percent_decode bytes ≡ bytes
@@ -39,12 +43,12 @@ percent_decode-plain (b ∷ bytes) none = of (b == percent_sign) refl none (λ r
       percent_decode_not_percent b bytes (λ e. eqb-false b percent_sign is e) ∙ ap (λ rest. b ∷ rest) (others none)
 
 -- so if nothing is found for these bytes as they are, nothing is found
-pub Finds-plain : (olds : List (List ℕ)) (file : FileText) (bytes : List ℕ)
-    → list_any (λ b. b == percent_sign) bytes ≡ false → Finds olds (StandsFor olds file bytes) None
-    → Finds olds (IsWritten olds file bytes) None
-Finds-plain olds file bytes none finds =
-    Finds-second olds (StandsFor olds file bytes) (StandsFor olds file (percent_decode bytes)) None finds
-    (subst (λ text. Finds olds (StandsFor olds file text) None) (sym (percent_decode-plain bytes none)) finds)
+pub Finds-plain : (olds : List (List ℕ)) (file : FileText) (others : ℕ) (bytes : List ℕ)
+    → list_any (λ b. b == percent_sign) bytes ≡ false → Finds olds (WithOthers others (StandsFor olds file bytes)) None
+    → Finds olds (WithOthers others (IsWritten olds file bytes)) None
+Finds-plain olds file others bytes none finds =
+    Finds-second olds others (StandsFor olds file bytes) (StandsFor olds file (percent_decode bytes)) None finds
+    (subst (λ text. Finds olds (WithOthers others (StandsFor olds file text)) None) (sym (percent_decode-plain bytes none)) finds)
 
 -- ---- what bytes end in that write an old path
 
@@ -62,30 +66,72 @@ may_end-known true b c is = refl
 may_end-known false true c is = refl
 may_end-known false false c is = is
 
--- a name of the set may end as a text that stands for an old path
-may_end-text : (olds : List (List ℕ)) (set : OldNames) (file : FileText) (text old : List ℕ) → Has olds set
-    → Contains olds old → StandsFor olds file text old → may_end set (ending_of text) ≡ true
-may_end-text olds set file text old has is_old stands = of (file_name_of text) refl stands.named where
+-- a name may end as a text that stands for an old path, if the set has the ending of the text's last name
+may_end-text : (olds : List (List ℕ)) (endings : Hashes) (file : FileText) (text old : List ℕ)
+    → ((t n : List ℕ) → StandsFor olds file t old → file_name_of t ≡ Some n → may_have endings (ending_of n).hash ≡ true)
+    → StandsFor olds file text old → may_end endings (ending_of text) ≡ true
+may_end-text olds endings file text old has stands = of (file_name_of text) refl stands.named where
   e : Ending
   e = ending_of text
 
-  of : (found : Option (List ℕ)) → file_name_of text ≡ found → IsSome found → may_end set e ≡ true
+  of : (found : Option (List ℕ)) → file_name_of text ≡ found → IsSome found → may_end endings e ≡ true
   of None is some = absurd (true≢false (sym some))
-  of (Some n) is some =
-      let last = StandsFor-last olds set file text n old has is_old is stands in
-      elim (ends-name text n is) [
-        | inl dotted ↦ may_end-dot e.encoded (e.hash == dot) (may_have set.endings e.hash) (eq-eqb e.hash dot dotted)
-        | inr same ↦
-            may_end-known e.encoded (e.hash == dot) (may_have set.endings e.hash)
-            (ap (may_have set.endings) same ∙ last.ending)
-      ]
+  of (Some n) is some = elim (ends-name text n is) [
+    | inl dotted ↦ may_end-dot e.encoded (e.hash == dot) (may_have endings e.hash) (eq-eqb e.hash dot dotted)
+    | inr same ↦
+        may_end-known e.encoded (e.hash == dot) (may_have endings e.hash)
+        (ap (may_have endings) same ∙ has text n stands is)
+  ]
 
 -- and as bytes that write one
-pub may_end-written : (olds : List (List ℕ)) (set : OldNames) (file : FileText) (bytes old : List ℕ) → Has olds set
-    → Contains olds old → IsWritten olds file bytes old → may_end set (ending_of bytes) ≡ true
-may_end-written olds set file bytes old has is_old (inl stands) = may_end-text olds set file bytes old has is_old stands
-may_end-written olds set file bytes old has is_old (inr stands) = elim (ends-decoded bytes) [
-  | inl same ↦ ap (may_end set) same ∙ may_end-text olds set file (percent_decode bytes) old has is_old stands
+may_end-bytes : (olds : List (List ℕ)) (endings : Hashes) (file : FileText) (bytes old : List ℕ)
+    → ((t n : List ℕ) → StandsFor olds file t old → file_name_of t ≡ Some n → may_have endings (ending_of n).hash ≡ true)
+    → IsWritten olds file bytes old → may_end endings (ending_of bytes) ≡ true
+may_end-bytes olds endings file bytes old has (inl stands) = may_end-text olds endings file bytes old has stands
+may_end-bytes olds endings file bytes old has (inr stands) = elim (ends-decoded bytes) [
+  | inl same ↦ ap (may_end endings) same ∙ may_end-text olds endings file (percent_decode bytes) old has stands
   | inr encoded ↦
-      let e = ending_of bytes in may_end-encoded e.encoded (e.hash == dot) (may_have set.endings e.hash) encoded
+      let e = ending_of bytes in may_end-encoded e.encoded (e.hash == dot) (may_have endings e.hash) encoded
+]
+
+pub may_end-written : (olds : List (List ℕ)) (set : OldNames) (file : FileText) (bytes old : List ℕ) → Has olds set
+    → Contains olds old → IsWritten olds file bytes old → may_end set.endings (ending_of bytes) ≡ true
+may_end-written olds set file bytes old has is_old written =
+    may_end-bytes olds set.endings file bytes old
+    (λ t n stands is. (StandsFor-last olds set file t n old has is_old is stands).ending) written
+
+pub may_end-with_others : (olds : List (List ℕ)) (set : OldNames) (file : FileText) (bytes old : List ℕ) → Has olds set
+    → Contains olds old → 0 < others_in old → IsWritten olds file bytes old
+    → may_end set.endings_with_others (ending_of bytes) ≡ true
+may_end-with_others olds set file bytes old has is_old some written =
+    may_end-bytes olds set.endings_with_others file bytes old
+    (λ t n stands is. (StandsFor-last olds set file t n old has is_old is stands).with_others some) written
+
+-- ---- bytes that write an old path have a name
+
+-- slashes are decoded to themselves
+slashes-plain : (bytes : List ℕ) → has_name bytes ≡ false → list_any (λ b. b == percent_sign) bytes ≡ false
+slashes-plain [] none = refl
+slashes-plain (b ∷ bytes) none = elim (cases_Bool (is_slash b)) [
+  | inl slashed ↦
+      ap (λ c. c == percent_sign || list_any (λ d. d == percent_sign) bytes) (eqb-true b slash slashed)
+      ∙ slashes-plain bytes (sym (ap (λ c. not c || has_name bytes) slashed) ∙ none)
+  | inr plain ↦ absurd (true≢false (sym (ap (λ c. not c || has_name bytes) plain) ∙ none))
+]
+
+has_name-text : (olds : List (List ℕ)) (file : FileText) (text old : List ℕ) → StandsFor olds file text old
+    → has_name text ≡ true
+has_name-text olds file text old stands = of (file_name_of text) refl stands.named where
+  of : (found : Option (List ℕ)) → file_name_of text ≡ found → IsSome found → has_name text ≡ true
+  of None is some = absurd (true≢false (sym some))
+  of (Some n) is some = has_name-named text n is
+
+pub has_name-written : (olds : List (List ℕ)) (file : FileText) (bytes old : List ℕ) → IsWritten olds file bytes old
+    → has_name bytes ≡ true
+has_name-written olds file bytes old (inl stands) = has_name-text olds file bytes old stands
+has_name-written olds file bytes old (inr stands) = elim (cases_Bool (has_name bytes)) [
+  | inl some ↦ some
+  | inr none ↦
+      sym (ap has_name (percent_decode-plain bytes (slashes-plain bytes none)))
+      ∙ has_name-text olds file (percent_decode bytes) old stands
 ]

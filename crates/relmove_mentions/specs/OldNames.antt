@@ -1,10 +1,10 @@
 -- The names that an `OldNames` has.
-use Rattle.std.specs.Prelude.{◌≡◌, ℕ, Bool, true, ◌==◌, ◌||◌, List, map, Option, Some, MatchOption, IsSome, IsTrue, ◌++◌, ◌∷◌, []}
+use Rattle.std.specs.Prelude.{◌≡◌, ◌<◌, ◌≤◌, ℕ, Bool, true, List, map, Option, Some, MatchOption, IsSome, IsTrue, ◌++◌, ◌∷◌, []}
 use Rattle.std.specs.BTreeMap.{get_by_text}
 use Rattle.std.specs.BTreeSet.{contains_text}
 use Rattle.std.specs.List.{Contains, flat_map}
 use Rattle.std.specs.Option.{option_map_or}
-use Rattle.relative_path.specs.Steps.{Step, name, dot}
+use Rattle.relative_path.specs.Steps.{Step, name}
 use Rattle.relative_path.specs.Walk.{IsSame}
 use Rattle.relative_path.specs.Normalizing.{IsNormalTextOf}
 use Rattle.relative_path_places.specs.Views.{view_text}
@@ -14,7 +14,7 @@ use Rattle.relmove_mentions.specs.First.{IsFirst}
 use Rattle.relmove_mentions.specs.Hashes.{may_have}
 use Rattle.relmove_mentions.specs.NameHashes.{hash_of, two_hash}
 use Rattle.relmove_mentions.specs.Names.{names_of, most_others}
-use Rattle.relmove_mentions.specs.declared.endings.Ending.{Ending}
+use Rattle.relmove_mentions.specs.Spans.{others_in}
 use Rattle.relmove_mentions.specs.declared.old_names.OldNames.{OldNames}
 
 -- a path, and one of its names
@@ -33,14 +33,12 @@ with_names old names = map (λ steps. (old, steps)) names
 abbrev pub all_names : List (List ℕ) → List PathName
 all_names olds = flat_map (λ old. with_names old (names_of old)) olds
 
--- the set has this last name, and what it ends in
-pub record HasLastName (set : OldNames) (n : List ℕ) : Type 0 where
+-- the set has this last name of a path, and what it ends in, also apart from others if the path has a byte that doesn't go
+-- on a path
+pub record HasLastName (set : OldNames) (old n : List ℕ) : Type 0 where
   pub listed : IsTrue (contains_text set.last_names n)
   pub ending : IsTrue (may_have set.endings (ending_of n).hash)
-
--- a name of the set may end as a text does
-abbrev pub may_end : OldNames → Ending → Bool
-may_end set ending = ending.encoded || ending.hash == dot || may_have set.endings ending.hash
+  pub with_others : 0 < others_in old → IsTrue (may_have set.endings_with_others (ending_of n).hash)
 
 -- a name of the set may end in two names with this hash, if there is a hash
 abbrev pub may_have_two : OldNames → Option ℕ → Bool
@@ -54,7 +52,7 @@ pub record Lists (names : List PathName) (set : OldNames) : Type 0 where
   pub each : (old : List ℕ) (steps : List Step) (text : List ℕ) → Contains names (old, steps) → IsNormalTextOf steps text
       → IsSome (get_by_text set.by_text text)
   pub last : (old : List ℕ) (steps front : List Step) (n : List ℕ) → Contains names (old, steps)
-      → IsSame (front ++ name n ∷ []) steps → HasLastName set n
+      → IsSame (front ++ name n ∷ []) steps → HasLastName set old n
   pub last_two : (old : List ℕ) (steps front : List Step) (d n : List ℕ) → Contains names (old, steps)
       → IsSame (front ++ name d ∷ name n ∷ []) steps → IsTrue (may_have_two set (two_hash (Some (hash_of d)) (Some (hash_of n))))
 
@@ -62,6 +60,10 @@ pub record Lists (names : List PathName) (set : OldNames) : Type 0 where
 pub record Has (olds : List (List ℕ)) (set : OldNames) : Type 0 where
   pub lists : Lists (all_names olds) set
   pub most : set.most_others ≡ most_others olds
+
+-- this holds of a path that has at least so many bytes that don't go on a path
+abbrev pub WithOthers : ℕ → (List ℕ → Type 0) → List ℕ → Type 0
+WithOthers others P old = (others ≤ others_in old) × P old
 
 -- one of the old paths for which this holds, or `None` if it holds for none
 abbrev pub Finds : List (List ℕ) → (List ℕ → Type 0) → Option NormalView → Type 0

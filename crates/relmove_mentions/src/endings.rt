@@ -1,19 +1,24 @@
 //! What a text ends in.
-ghost use Rattle.std.specs.Prelude.{◌≡◌};
-ghost use Rattle.relmove_mentions.specs.Endings.{ending_of, next_ending, no_ending};
+ghost use Rattle.std.specs.Prelude.{◌≡◌, false};
+ghost use Rattle.relative_path.specs.Steps.{is_slash};
+ghost use Rattle.relmove_mentions.specs.Endings.{ending_of, may_end, next_ending, no_ending};
 
+use crate::hashes::Hashes;
 use crate::name_hashes::hash_with;
 use crate::text_span::is_path_byte;
 
-// What a text ends in: the path bytes at the end of its last name, and slashes.
+// The hash of a full stop.
+const DOT_HASH: u64 = 46;
+
+// What a text ends in, apart from slashes: the path bytes at the end of its last name, or one byte that isn't a path byte.
 #[derive(Clone, Copy)]
 pub(crate) struct Ending {
-    // The hash of these path bytes.
+    // The hash of these bytes.
     pub(crate) hash: u64,
     // Whether they have a percent sign.
     pub(crate) encoded: bool,
-    // Whether a slash comes after them.
-    pub(crate) slashed: bool,
+    // Whether the next byte, if it is no slash, begins others.
+    pub(crate) ended: bool,
 }
 
 impl Ending {
@@ -25,7 +30,7 @@ impl Ending {
         Ending {
             hash: 0,
             encoded: false,
-            slashed: false,
+            ended: true,
         }
     }
 
@@ -36,19 +41,34 @@ impl Ending {
     {
         if byte == b'/' {
             return Ending {
-                slashed: true,
+                ended: true,
                 ..self
             };
         }
-        if !is_path_byte(byte) {
-            return Ending::none();
-        }
-        let name = if self.slashed { Ending::none() } else { self };
+        self.then_no_slash(byte)
+    }
+
+    // Returns what the text ends in with one more byte that is no slash.
+    #[inline]
+    fn then_no_slash(self, byte: u8) -> Ending
+        requires { is_slash byte ≡ false }
+        ensures { result ≡ next_ending self byte }
+    {
+        let begins = self.ended || !is_path_byte(byte);
+        let bytes = if begins { Ending::none() } else { self };
         Ending {
-            hash: hash_with(name.hash, byte),
-            encoded: name.encoded || byte == b'%',
-            slashed: false,
+            hash: hash_with(bytes.hash, byte),
+            encoded: bytes.encoded || byte == b'%',
+            ended: !is_path_byte(byte),
         }
+    }
+
+    // Returns whether a name of which the set has the ending may end as the text does.
+    #[inline]
+    pub(crate) fn may_be_of(self, endings: &Hashes) -> bool
+        ensures { result ≡ may_end endings.now self }
+    {
+        self.encoded || self.hash == DOT_HASH || endings.may_have(self.hash)
     }
 }
 

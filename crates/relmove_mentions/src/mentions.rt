@@ -6,14 +6,15 @@ ghost use Rattle.relative_path.specs.Unix.{has_root};
 ghost use Rattle.relative_path.specs.RelativePath.{path_components, path_text};
 ghost use Rattle.relative_path_places.specs.Views.{view_text};
 ghost use Rattle.relmove_mentions.specs.Bases.{base_components};
-ghost use Rattle.relmove_mentions.specs.Endings.{ending_of};
-ghost use Rattle.relmove_mentions.specs.Mentions.{AreMentionsBefore, IsMention, spans_of};
+ghost use Rattle.relmove_mentions.specs.Endings.{IsCandidate, ending_of, may_end};
+ghost use Rattle.relmove_mentions.specs.Mentions.{AreMentionsBefore, HaveAtMost, HaveOthersFrom, IsMention, spans_of};
 ghost use Rattle.relmove_mentions.specs.NameHashes.{name_alone};
-ghost use Rattle.relmove_mentions.specs.OldNames.{Finds, Has, may_end};
+ghost use Rattle.relmove_mentions.specs.OldNames.{Finds, Has, WithOthers};
 ghost use Rattle.relmove_mentions.specs.Spans.{
   ArePassed,
   ComesBefore,
   FollowFrom,
+  IsBounded,
   is_apart,
   is_bounded_after,
   is_bounded_before,
@@ -36,6 +37,7 @@ ghost use Rattle.relmove_mentions.specs.declared.text_span.TextSpan.{TextSpan};
 use crate::bases::Base;
 use crate::endings::Ending;
 use crate::file_text::FileText;
+use crate::hashes::Hashes;
 use crate::name_hashes::{last_two_hash, name_alone, two_hash};
 use crate::old_names::OldNames;
 use crate::searched_file::{SearchedFile, bases_of};
@@ -63,11 +65,11 @@ impl<'p> OldNames<'p> {
     ///
     /// Right before and after a mention the text ends, or has a byte that isn't an ASCII letter or digit, `%`, `-`,
     /// `.`, `/`, `_` or above 127; after it can also be a full stop, and then such an end. A mention has at most as many
-    /// such bytes as an old path. What was read has no byte of a mention. An empty span has no byte, so a mention can go
+    /// such bytes as its path. What was read has no byte of a mention. An empty span has no byte, so a mention can go
     /// on across it.
     ///
-    /// Time is linear in the text, and grows with the square of that number. Allocates the list of mentions, and an entry
-    /// for each directory and each top. For a span with a percent sign it allocates at most the decoded bytes, and for a span
+    /// Time is linear in the text. Where a path with such bytes may be written, it grows with the square of their greatest
+    /// number. Allocates the list of mentions, and an entry for each directory and each top. For a span with a percent sign it allocates at most the decoded bytes, and for a span
     /// that ends in the last name of a name at most what `join_normalized` does, for each directory and each top twice.
     /// Fails only if an allocation fails.
     ///
@@ -127,82 +129,69 @@ impl<'p> OldNames<'p> {
         let mut mentions = Vec::new(alloc);
         let mut passed = 0;
         let mut start = 0;
-        while let Some(end) = self.next_end(file.text, start) {
-            start = self.first_start(file.text, start, end);
+        let mut wide = self.next_with_others(file.text, start);
+        while let Some(end) = next_end(&self.endings, file.text, start) {
+            wide = self.with_others_from(file.text, start, wide);
+            start = first_start_of(file.text, start, end, wide.start);
             passed = count_passed(file.read, passed, start);
             let span = TextSpan { start, end };
-            self.push_between(alloc, searched, passed, span, &mut mentions)?;
+            self.push_between(alloc, searched, passed, span, wide.start, &mut mentions)?;
             start = end;
         }
         Ok(mentions)
     }
 
-    // Returns the first offset after another at which a mention can end. `None` if there is no such offset.
-    fn next_end(&self, text: &[u8], start: usize) -> Option<usize>
+    // Returns from where to where the next mentions with bytes that aren't path bytes can begin: from no later offset than the
+    // first of those that begin at an offset or later.
+    fn next_with_others(&self, text: &[u8], start: usize) -> TextSpan
         requires { start ≤ length text.now }
-        ensures none { IfNone result ((olds : List (List ℕ)) (file : FileText) (span : TextSpan) (old : List ℕ)
-            → Has olds self.now → file.text.now ≡ text.now → IsMention olds file span old → span.start < start) }
-        ensures after { IfSome result (λ end. start < end) }
-        ensures within { IfSome result (λ end. end ≤ length text.now) }
-        ensures first { IfSome result (λ end. (olds : List (List ℕ)) (file : FileText) (span : TextSpan) (old : List ℕ)
-            → Has olds self.now → file.text.now ≡ text.now → IsMention olds file span old → start ≤ span.start
-            → end ≤ span.end) }
+        ensures { (olds : List (List ℕ)) (file : FileText) → Has olds self.now → file.text.now ≡ text.now
+            → HaveOthersFrom olds file start result.start }
     {
-        let mut ending = Ending::none();
-        let mut end = start;
-        while end < text.len() {
-            ending = ending.then(text[end]);
-            end += 1;
-            if self.can_end(ending, text, end) {
-                return Some(end);
-            }
+        if self.most_others() == 0 {
+            return nothing_in(text);
         }
-        None
-    }
-
-    // Returns whether a mention can end at an offset, before which a text ends so.
-    #[inline]
-    fn can_end(&self, ending: Ending, text: &[u8], end: usize) -> bool
-        ensures { result ≡ (is_bounded_after text.now end && may_end self.now ending) }
-    {
-        is_bounded_after(text, end) && self.may_end(ending)
-    }
-
-    // Returns the first offset from a start on at which a mention can begin that ends at an offset or later.
-    fn first_start(&self, text: &[u8], start: usize, end: usize) -> usize
-        requires order { start ≤ end }
-        requires within { end ≤ length text.now }
-        ensures after { start ≤ result }
-        ensures before { result ≤ end }
-        ensures first { (olds : List (List ℕ)) (file : FileText) (span : TextSpan) (old : List ℕ)
-            → Has olds self.now → file.text.now ≡ text.now → IsMention olds file span old → start ≤ span.start
-            → end ≤ span.end → result ≤ span.start }
-    {
-        let mut left = self.most_others();
-        let mut first = end;
-        while start < first {
-            let Some(more) = others_left(text[first - 1], left) else {
-                return first;
-            };
-            left = more;
-            first -= 1;
+        match next_end(&self.endings_with_others, text, start) {
+            Some(end) => TextSpan {
+                start: first_start(text, start, end, self.most_others()),
+                end,
+            },
+            None => nothing_in(text),
         }
-        first
     }
 
-    // Appends the mentions that begin in a span. So many of the spans that were read end before it.
+    // Returns the same from an offset on, if this was it from an earlier one.
+    fn with_others_from(&self, text: &[u8], start: usize, before: TextSpan) -> TextSpan
+        requires within { start ≤ length text.now }
+        requires before { (olds : List (List ℕ)) (file : FileText) → Has olds self.now → file.text.now ≡ text.now
+            → HaveOthersFrom olds file start before.start }
+        ensures { (olds : List (List ℕ)) (file : FileText) → Has olds self.now → file.text.now ≡ text.now
+            → HaveOthersFrom olds file start result.start }
+    {
+        if start < before.end {
+            before
+        } else {
+            self.next_with_others(text, start)
+        }
+    }
+
+    // Appends the mentions that begin in a span. So many of the spans that were read end before it, and mentions with bytes
+    // that aren't path bytes begin at an offset or later.
     fn push_between(
         &self,
         alloc: Global,
         searched: SearchedFile<'_>,
         passed: usize,
         span: TextSpan,
+        wide: usize,
         mentions: &mut Vec<Mention<'p>>,
     ) -> Result<(), AllocError>
         requires order { span.start ≤ span.end }
         requires within { span.end ≤ length searched.file.text.now }
         requires in_order { FollowFrom 0 searched.file.read.now }
         requires passed { ArePassed searched.file.read.now passed span.start }
+        requires wide { (olds : List (List ℕ)) → Has olds self.now
+            → HaveOthersFrom olds searched.file span.start wide }
         ensures { OnOk result ((olds : List (List ℕ)) → Has olds self.now
             → AreMentionsBefore olds searched.entry.file mentions.old.items span.start 0
             → AreMentionsBefore olds searched.entry.file mentions.new.items span.end 0) }
@@ -211,7 +200,7 @@ impl<'p> OldNames<'p> {
         let mut start = span.start;
         while start < span.end {
             passed = count_passed(searched.file.read, passed, start);
-            self.push_from(alloc, searched, passed, start, mentions)?;
+            self.push_from(alloc, searched, passed, start, wide, mentions)?;
             start += 1;
         }
         Ok(())
@@ -224,11 +213,13 @@ impl<'p> OldNames<'p> {
         searched: SearchedFile<'_>,
         passed: usize,
         start: usize,
+        wide: usize,
         mentions: &mut Vec<Mention<'p>>,
     ) -> Result<(), AllocError>
         requires within { start ≤ length searched.file.text.now }
         requires in_order { FollowFrom 0 searched.file.read.now }
         requires passed { ArePassed searched.file.read.now passed start }
+        requires wide { (olds : List (List ℕ)) → Has olds self.now → HaveOthersFrom olds searched.file start wide }
         ensures { OnOk result ((olds : List (List ℕ)) → Has olds self.now
             → AreMentionsBefore olds searched.entry.file mentions.old.items start 0
             → AreMentionsBefore olds searched.entry.file mentions.new.items (start + 1) 0) }
@@ -236,7 +227,7 @@ impl<'p> OldNames<'p> {
         if !is_bounded_before(searched.file.text, start) {
             return Ok(());
         }
-        self.push_bounded(alloc, searched, passed, start, mentions)
+        self.push_bounded(alloc, searched, passed, start, wide, mentions)
     }
 
     // The same, for an offset at which a mention can begin.
@@ -246,18 +237,21 @@ impl<'p> OldNames<'p> {
         searched: SearchedFile<'_>,
         passed: usize,
         start: usize,
+        wide: usize,
         mentions: &mut Vec<Mention<'p>>,
     ) -> Result<(), AllocError>
         requires within { start ≤ length searched.file.text.now }
         requires before { IsTrue (is_bounded_before searched.file.text.now start) }
         requires in_order { FollowFrom 0 searched.file.read.now }
         requires passed { ArePassed searched.file.read.now passed start }
+        requires wide { (olds : List (List ℕ)) → Has olds self.now → HaveOthersFrom olds searched.file start wide }
         ensures { OnOk result ((olds : List (List ℕ)) → Has olds self.now
             → AreMentionsBefore olds searched.entry.file mentions.old.items start 0
             → AreMentionsBefore olds searched.entry.file mentions.new.items (start + 1) 0) }
     {
         let text = searched.file.text;
-        let mut left = self.most_others();
+        let most = self.most_at(start, wide);
+        let mut left = most;
         let mut ending = Ending::none();
         let mut end = start;
         while end < text.len() {
@@ -266,20 +260,30 @@ impl<'p> OldNames<'p> {
             };
             left = more;
             ending = ending.then(text[end]);
-            end += 1;
+            end = offset_after(text, end);
             let span = TextSpan { start, end };
-            self.push_at(alloc, searched, passed, span, ending, mentions)?;
+            self.push_at(alloc, searched, passed, span, most - left, ending, mentions)?;
         }
         Ok(())
     }
 
-    // Appends the mention at a span that ends so, if there is one.
+    // Returns how many bytes that aren't path bytes a mention can have at most that begins at an offset, if those that have
+    // some begin at another offset or later.
+    fn most_at(&self, start: usize, wide: usize) -> usize
+        ensures { (olds : List (List ℕ)) (file : FileText) → Has olds self.now → HaveOthersFrom olds file start wide
+            → HaveAtMost olds file start result }
+    {
+        if wide <= start { self.most_others() } else { 0 }
+    }
+
+    // Appends the mention at a span that ends so, if there is one. So many of its bytes aren't path bytes.
     fn push_at(
         &self,
         alloc: Global,
         searched: SearchedFile<'_>,
         passed: usize,
         span: TextSpan,
+        others: usize,
         ending: Ending,
         mentions: &mut Vec<Mention<'p>>,
     ) -> Result<(), AllocError>
@@ -287,14 +291,14 @@ impl<'p> OldNames<'p> {
         requires within { span.end ≤ length searched.file.text.now }
         requires before { IsTrue (is_bounded_before searched.file.text.now span.start) }
         requires ending { ending ≡ ending_of (span_bytes searched.file.text.now span) }
-        requires few { others_in (span_bytes searched.file.text.now span) ≤ self.now.most_others }
+        requires others { others ≡ others_in (span_bytes searched.file.text.now span) }
         requires in_order { FollowFrom 0 searched.file.read.now }
         requires passed { ArePassed searched.file.read.now passed span.start }
         ensures { OnOk result ((olds : List (List ℕ)) → Has olds self.now
             → AreMentionsBefore olds searched.entry.file mentions.old.items span.start span.end
             → AreMentionsBefore olds searched.entry.file mentions.new.items span.start (span.end + 1)) }
     {
-        let found = self.find_at(alloc, searched, passed, span, ending)?;
+        let found = self.find_at(alloc, searched, passed, span, others, ending)?;
         match found {
             Some(path) => {
                 mentions.push(Mention { span, path })?;
@@ -304,45 +308,52 @@ impl<'p> OldNames<'p> {
         }
     }
 
-    // Returns an old path that is mentioned at a span that ends so.
+    // Returns an old path that is mentioned at a span that ends so. So many of its bytes aren't path bytes.
     fn find_at(
         &self,
         alloc: Global,
         searched: SearchedFile<'_>,
         passed: usize,
         span: TextSpan,
+        others: usize,
         ending: Ending,
     ) -> Result<Option<NormalView<'p>>, AllocError>
         requires order { span.start < span.end }
         requires within { span.end ≤ length searched.file.text.now }
         requires before { IsTrue (is_bounded_before searched.file.text.now span.start) }
         requires ending { ending ≡ ending_of (span_bytes searched.file.text.now span) }
-        requires few { others_in (span_bytes searched.file.text.now span) ≤ self.now.most_others }
+        requires others { others ≡ others_in (span_bytes searched.file.text.now span) }
         requires in_order { FollowFrom 0 searched.file.read.now }
         requires passed { ArePassed searched.file.read.now passed span.start }
         ensures { IfOk result (λ found. (olds : List (List ℕ)) → Has olds self.now
             → Finds olds (IsMention olds searched.entry.file span) found) }
     {
-        if !self.can_end(ending, searched.file.text, span.end) {
+        if !can_end(&self.endings, ending, searched.file.text, span.end) {
             return Ok(None);
         }
         if !is_unread(searched.file.read, passed, span) {
             return Ok(None);
         }
-        self.find(alloc, searched, &searched.file.text[span.start..span.end])
+        self.find(
+            alloc,
+            searched,
+            others,
+            &searched.file.text[span.start..span.end],
+        )
     }
 
-    // Returns an old path that bytes write.
+    // Returns an old path with at least so many bytes that aren't path bytes that bytes write.
     fn find(
         &self,
         alloc: Global,
         searched: SearchedFile<'_>,
+        others: usize,
         bytes: &[u8],
     ) -> Result<Option<NormalView<'p>>, AllocError>
         ensures { IfOk result (λ found. (olds : List (List ℕ)) → Has olds self.now
-            → Finds olds (IsWritten olds searched.entry.file bytes.now) found) }
+            → Finds olds (WithOthers others (IsWritten olds searched.entry.file bytes.now)) found) }
     {
-        if let Some(old) = self.find_text(alloc, searched, bytes)? {
+        if let Some(old) = self.find_text(alloc, searched, others, bytes)? {
             return Ok(Some(old));
         }
         if !has_percent(bytes) {
@@ -350,18 +361,19 @@ impl<'p> OldNames<'p> {
         }
         let mut text = Vec::new(alloc);
         percent_decode(bytes).append_to(&mut text)?;
-        self.find_text(alloc, searched, text.as_slice())
+        self.find_text(alloc, searched, others, text.as_slice())
     }
 
-    // Returns an old path for which a text stands.
+    // Returns an old path with at least so many bytes that aren't path bytes for which a text stands.
     fn find_text(
         &self,
         alloc: Global,
         searched: SearchedFile<'_>,
+        others: usize,
         text: &[u8],
     ) -> Result<Option<NormalView<'p>>, AllocError>
         ensures { IfOk result (λ found. (olds : List (List ℕ)) → Has olds self.now
-            → Finds olds (StandsFor olds searched.entry.file text.now) found) }
+            → Finds olds (WithOthers others (StandsFor olds searched.entry.file text.now)) found) }
     {
         let Ok(text) = str::from_utf8(text) else {
             return Ok(None);
@@ -376,93 +388,194 @@ impl<'p> OldNames<'p> {
         if !self.may_have_two(last_two_hash(path)) {
             return Ok(None);
         }
-        if let Some(old) = self.find_from_directory(alloc, searched, path)? {
+        if let Some(old) = self.find_from_directory(alloc, searched, others, path)? {
             return Ok(Some(old));
         }
-        self.find_from_top(alloc, searched, path)
+        self.find_from_top(alloc, searched, others, path)
     }
 
-    // Returns an old path to which a path leads from a directory of a file.
+    // Returns an old path with at least so many bytes that aren't path bytes to which a path leads from a directory of a file.
     fn find_from_directory(
         &self,
         alloc: Global,
         searched: SearchedFile<'_>,
+        others: usize,
         path: RelativePath<'_>,
     ) -> Result<Option<NormalView<'p>>, AllocError>
         ensures { IfOk result (λ found. (olds : List (List ℕ)) → Has olds self.now
-            → Finds olds (LeadsFromDirectory olds searched.entry.file (path_text path.entry)) found) }
+            → Finds olds (WithOthers others
+            (LeadsFromDirectory olds searched.entry.file (path_text path.entry))) found) }
     {
         if has_root(path) {
             return Ok(None);
         }
-        self.find_from(alloc, searched.directories, path)
+        self.find_from(alloc, searched.directories, others, path)
     }
 
-    // Returns an old path to which a path leads from a top.
+    // Returns such an old path to which a path leads from a top.
     fn find_from_top(
         &self,
         alloc: Global,
         searched: SearchedFile<'_>,
+        others: usize,
         path: RelativePath<'_>,
     ) -> Result<Option<NormalView<'p>>, AllocError>
         ensures { IfOk result (λ found. (olds : List (List ℕ)) → Has olds self.now
-            → Finds olds (LeadsFromTop olds searched.entry.file (path_text path.entry)) found) }
+            → Finds olds (WithOthers others (LeadsFromTop olds searched.entry.file (path_text path.entry))) found) }
     {
         if !has_directory(path) {
             return Ok(None);
         }
-        self.find_from(alloc, searched.tops, path)
+        self.find_from(alloc, searched.tops, others, path)
     }
 
-    // Returns an old path to which a path leads from one of these bases.
+    // Returns such an old path to which a path leads from one of these bases.
     fn find_from(
         &self,
         alloc: Global,
         bases: &[Base<'_>],
+        others: usize,
         path: RelativePath<'_>,
     ) -> Result<Option<NormalView<'p>>, AllocError>
         ensures { IfOk result (λ found. (olds : List (List ℕ)) → Has olds self.now
-            → Finds olds (LeadsFrom olds (map base_components bases.now) (path_components path.entry)) found) }
+            → Finds olds (WithOthers others
+            (LeadsFrom olds (map base_components bases.now) (path_components path.entry))) found) }
     {
         let name = name_alone(path);
         for base in bases {
-            if let Some(old) = self.find_below(alloc, *base, path, name)? {
+            if let Some(old) = self.find_below(alloc, *base, others, path, name)? {
                 return Ok(Some(old));
             }
         }
         Ok(None)
     }
 
-    // Returns an old path to which a base and then a path lead. If the path is a name alone, this is the name's hash.
+    // Returns such an old path to which a base and then a path lead. If the path is a name alone, this is the name's hash.
     fn find_below(
         &self,
         alloc: Global,
         base: Base<'_>,
+        others: usize,
         path: RelativePath<'_>,
         name: Option<u64>,
     ) -> Result<Option<NormalView<'p>>, AllocError>
         requires name { name ≡ name_alone (path_components path) }
         ensures { IfOk result (λ found. (olds : List (List ℕ)) → Has olds self.now
-            → Finds olds (LeadsToPath olds (base_components base.entry ++ path_components path.entry)) found) }
+            → Finds olds (WithOthers others
+            (LeadsToPath olds (base_components base.entry ++ path_components path.entry))) found) }
     {
         if !self.may_have_two(two_hash(base.name, name)) {
             return Ok(None);
         }
-        self.find_joined(alloc, base.path, path)
+        self.find_joined(alloc, base.path, others, path)
     }
 
-    // Returns an old path to which a directory and then a path lead.
+    // Returns such an old path to which a directory and then a path lead.
     fn find_joined(
         &self,
         alloc: Global,
         directory: RelativePath<'_>,
+        others: usize,
         path: RelativePath<'_>,
     ) -> Result<Option<NormalView<'p>>, AllocError>
         ensures { IfOk result (λ found. (olds : List (List ℕ)) → Has olds self.now
-            → Finds olds (LeadsToPath olds (path_components directory.entry ++ path_components path.entry)) found) }
+            → Finds olds (WithOthers others
+            (LeadsToPath olds (path_components directory.entry ++ path_components path.entry))) found) }
     {
         let place = directory.join_normalized(alloc, path)?;
-        Ok(self.get(place.as_relative_path().as_str()))
+        Ok(self.get(place.as_relative_path().as_str(), others))
+    }
+}
+
+// Returns the first offset after another at which a span can end that ends as a name of which the set has the ending. `None`
+// if there is no such offset.
+fn next_end(endings: &Hashes, text: &[u8], start: usize) -> Option<usize>
+    requires { start ≤ length text.now }
+    ensures none { IfNone result ((span : TextSpan) → IsCandidate endings.now text.now span → span.start < start) }
+    ensures after { IfSome result (λ end. start < end) }
+    ensures within { IfSome result (λ end. end ≤ length text.now) }
+    ensures first { IfSome result (λ end. (span : TextSpan) → IsCandidate endings.now text.now span
+        → start ≤ span.start → end ≤ span.end) }
+{
+    let mut ending = Ending::none();
+    let mut end = start;
+    while end < text.len() {
+        ending = ending.then(text[end]);
+        end += 1;
+        if can_end(endings, ending, text, end) {
+            return Some(end);
+        }
+    }
+    None
+}
+
+// Returns whether a name of which the set has the ending can end at an offset, before which a text ends so.
+#[inline]
+fn can_end(endings: &Hashes, ending: Ending, text: &[u8], end: usize) -> bool
+    ensures { result ≡ (is_bounded_after text.now end && may_end endings.now ending) }
+{
+    is_bounded_after(text, end) && ending.may_be_of(endings)
+}
+
+// Returns the first offset from a start on at which a span can begin that ends at an offset or later, and has at most so many
+// bytes that aren't path bytes.
+fn first_start(text: &[u8], start: usize, end: usize, most: usize) -> usize
+    requires order { start ≤ end }
+    requires within { end ≤ length text.now }
+    ensures after { start ≤ result }
+    ensures before { result ≤ end }
+    ensures first { (span : TextSpan) → IsBounded text.now span → others_in (span_bytes text.now span) ≤ most
+        → start ≤ span.start → end ≤ span.end → result ≤ span.start }
+{
+    let mut left = most;
+    let mut first = end;
+    while start < first {
+        let Some(more) = others_left(text[first - 1], left) else {
+            return first;
+        };
+        left = more;
+        first -= 1;
+    }
+    first
+}
+
+// Returns the first offset from a start on at which a span can begin that ends at an offset or later, if those with bytes that
+// aren't path bytes begin at another offset or later.
+fn first_start_of(text: &[u8], start: usize, end: usize, wide: usize) -> usize
+    requires order { start ≤ end }
+    requires within { end ≤ length text.now }
+    ensures after { start ≤ result }
+    ensures before { result ≤ end }
+    ensures first { (span : TextSpan) → IsBounded text.now span
+        → (0 < others_in (span_bytes text.now span) → wide ≤ span.start) → start ≤ span.start → end ≤ span.end
+        → result ≤ span.start }
+{
+    let first = first_start(text, start, end, 0);
+    if first <= wide {
+        first
+    } else if start <= wide {
+        wide
+    } else {
+        start
+    }
+}
+
+// Returns the offset after that of a byte.
+#[inline]
+fn offset_after(text: &[u8], at: usize) -> usize
+    requires { at < length text.now }
+    ensures { result ≡ at + 1 }
+{
+    at + 1
+}
+
+// Returns the span after all bytes of a text.
+fn nothing_in(text: &[u8]) -> TextSpan
+    ensures { result.start ≡ length text.now }
+{
+    TextSpan {
+        start: text.len(),
+        end: text.len(),
     }
 }
 

@@ -1,5 +1,5 @@
 //! The old paths of a run, by their names.
-ghost use Rattle.std.specs.Prelude.{◌≡◌, ◌++◌, ◌∷◌, [], ℕ, List, map, max, true, if◌then◌else◌, IfOk, OnOk, Some};
+ghost use Rattle.std.specs.Prelude.{◌≡◌, ◌<◌, ◌≤◌, ◌++◌, ◌∷◌, [], ℕ, List, map, max, nat_le, true, if◌then◌else◌, IfNone, IfOk, IfSome, MatchOption, OnOk, Some, ⊤};
 ghost use Rattle.std.specs.Option.{option_map};
 ghost use Rattle.std.specs.BTreeMap.{get_by_text};
 ghost use Rattle.std.specs.BTreeSet.{contains_text};
@@ -23,10 +23,10 @@ ghost use Rattle.relmove_mentions.specs.Names.{
   names_of,
   page_names,
 };
-ghost use Rattle.relmove_mentions.specs.OldNames.{Has, Lists, may_end, may_have_two, with_names};
+ghost use Rattle.relmove_mentions.specs.OldNames.{Has, Lists, may_have_two, with_names};
 ghost use Rattle.relmove_mentions.specs.Spans.{others_in};
 
-use crate::endings::{Ending, ending_of};
+use crate::endings::ending_of;
 use crate::hashes::Hashes;
 use crate::name_hashes::last_two_hash;
 use crate::text_span::others_in;
@@ -34,9 +34,6 @@ use relative_path::RelativePath;
 use relative_path_places::{NormalView, directory};
 use std::alloc::{AllocError, Global};
 use std::collections::{BTreeMap, BTreeSet};
-
-// The hash of a full stop.
-const DOT_HASH: u64 = 46;
 
 /// The old paths of a run, by the names under which a file may mention them.
 ///
@@ -54,7 +51,9 @@ pub struct OldNames<'p> {
     by_text: BTreeMap<String, NormalView<'p>>,
     last_names: BTreeSet<String>,
     // The hashes of what the last names end in.
-    endings: Hashes,
+    pub(crate) endings: Hashes,
+    // Those of the paths that have a byte that isn't a path byte.
+    pub(crate) endings_with_others: Hashes,
     // Those of the last two names.
     last_twos: Hashes,
     most_others: usize,
@@ -68,7 +67,7 @@ impl<'p> OldNames<'p> {
     /// the extension `html`, and without an extension, unless that leaves `.` or `..`; and as `README.md`, `index.md` or
     /// `_index.md` its directory's `index.html`, and its directory, unless that is the root.
     ///
-    /// Allocates a copy of each name and of its last name, entries for those that are new, and two tables of at most 256
+    /// Allocates a copy of each name and of its last name, entries for those that are new, and three tables of at most 256
     /// bytes for each path. Fails only if an allocation fails.
     ///
     /// ```
@@ -93,10 +92,12 @@ impl<'p> OldNames<'p> {
         ensures lists { IfOk result (Lists []) }
         ensures most { IfOk result (λ names. names.most_others ≡ most_others) }
     {
+        let with_others = if most_others == 0 { 0 } else { count };
         Ok(OldNames {
             by_text: BTreeMap::new(alloc),
             last_names: BTreeSet::new(alloc),
             endings: Hashes::new(alloc, count)?,
+            endings_with_others: Hashes::new(alloc, with_others)?,
             last_twos: Hashes::new(alloc, count)?,
             most_others,
         })
@@ -197,6 +198,11 @@ impl<'p> OldNames<'p> {
         let normal = name.normalize(alloc)?;
         insert_last_name(alloc, &mut self.last_names, normal.as_relative_path())?;
         insert_ending(&mut self.endings, normal.as_relative_path());
+        insert_ending_with_others(
+            &mut self.endings_with_others,
+            normal.as_relative_path(),
+            old,
+        );
         insert_last_two(&mut self.last_twos, normal.as_relative_path());
         let text = normal.into_string();
         self.by_text.entry(text)?.or_insert(old);
@@ -217,14 +223,6 @@ impl<'p> OldNames<'p> {
         self.last_names.contains(name)
     }
 
-    // Returns whether a name of an old path may end as a text does.
-    #[inline]
-    pub(crate) fn may_end(&self, ending: Ending) -> bool
-        ensures { result ≡ may_end self.now ending }
-    {
-        ending.encoded || ending.hash == DOT_HASH || self.endings.may_have(ending.hash)
-    }
-
     // Returns whether a name of an old path may end in two names with this hash. If there is no hash, it may.
     #[inline]
     pub(crate) fn may_have_two(&self, two: Option<u64>) -> bool
@@ -236,12 +234,25 @@ impl<'p> OldNames<'p> {
         }
     }
 
-    // Returns the first old path with a name, by the name's normal text.
-    pub(crate) fn get(&self, name: &str) -> Option<NormalView<'p>>
-        ensures { result ≡ get_by_text self.now.by_text name.now }
+    // Returns the first old path with a name, by the name's normal text, if it has so many bytes that aren't path bytes.
+    pub(crate) fn get(&self, name: &str, others: usize) -> Option<NormalView<'p>>
+        ensures some { IfSome result (λ old. (get_by_text self.now.by_text name.now ≡ Some old)
+            × (others ≤ others_in (view_text old))) }
+        ensures none { IfNone result (MatchOption (get_by_text self.now.by_text name.now) ⊤
+            (λ old. others_in (view_text old) < others)) }
     {
-        self.by_text.get(name).copied()
+        match self.by_text.get(name) {
+            Some(old) if has_others(*old, others) => Some(*old),
+            _ => None,
+        }
     }
+}
+
+// Returns whether a path has at least so many bytes that aren't path bytes.
+fn has_others(path: NormalView<'_>, others: usize) -> bool
+    ensures { result ≡ nat_le others (others_in (view_text path.entry)) }
+{
+    others == 0 || others <= others_in(path.as_relative_path().as_str().as_bytes())
 }
 
 // Inserts the last name of a path.
@@ -269,6 +280,17 @@ fn insert_ending(endings: &mut Hashes, path: RelativePath<'_>)
 {
     if let Some(name) = path.file_name() {
         endings.insert(ending_of(name.as_bytes()).hash);
+    }
+}
+
+// Inserts what the last name of a path ends in, if it is a name of an old path that has a byte that isn't a path byte.
+fn insert_ending_with_others(endings: &mut Hashes, path: RelativePath<'_>, old: NormalView<'_>)
+    ensures has { (n : List ℕ) → file_name_of (path_text path.entry) ≡ Some n → 0 < others_in (view_text old.entry)
+        → may_have endings.new (ending_of n).hash ≡ true }
+    ensures keeps { (hash : ℕ) → may_have endings.old hash ≡ true → may_have endings.new hash ≡ true }
+{
+    if has_others(old, 1) {
+        insert_ending(endings, path);
     }
 }
 

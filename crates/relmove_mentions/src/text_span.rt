@@ -55,18 +55,33 @@ pub(crate) fn is_apart(span: TextSpan, other: TextSpan) -> bool
     other.end <= other.start || span.end <= other.start || other.end <= span.start
 }
 
+// Whether a path goes on with each byte.
+static PATH_BYTES: [bool; 256] = [
+    false, false, false, false, false, false, false, false, false, false, false, false, false,
+    false, false, false, false, false, false, false, false, false, false, false, false, false,
+    false, false, false, false, false, false, false, false, false, false, false, true, false,
+    false, false, false, false, false, false, true, true, true, true, true, true, true, true, true,
+    true, true, true, true, false, false, false, false, false, false, false, true, true, true,
+    true, true, true, true, true, true, true, true, true, true, true, true, true, true, true, true,
+    true, true, true, true, true, true, true, false, false, false, false, true, false, true, true,
+    true, true, true, true, true, true, true, true, true, true, true, true, true, true, true, true,
+    true, true, true, true, true, true, true, true, false, false, false, false, false, true, true,
+    true, true, true, true, true, true, true, true, true, true, true, true, true, true, true, true,
+    true, true, true, true, true, true, true, true, true, true, true, true, true, true, true, true,
+    true, true, true, true, true, true, true, true, true, true, true, true, true, true, true, true,
+    true, true, true, true, true, true, true, true, true, true, true, true, true, true, true, true,
+    true, true, true, true, true, true, true, true, true, true, true, true, true, true, true, true,
+    true, true, true, true, true, true, true, true, true, true, true, true, true, true, true, true,
+    true, true, true, true, true, true, true, true, true, true, true, true, true, true, true, true,
+    true, true, true, true, true, true, true, true, true, true, true, true, true, true,
+];
+
 // Returns whether a path goes on with a byte.
 #[inline]
 pub(crate) fn is_path_byte(byte: u8) -> bool
     ensures { result ≡ is_path_byte byte }
 {
-    byte.is_ascii_alphanumeric()
-        || byte == b'%'
-        || byte == b'-'
-        || byte == b'.'
-        || byte == b'/'
-        || byte == b'_'
-        || byte > 127
+    PATH_BYTES[byte as usize]
 }
 
 // Returns how many bytes of a text aren't path bytes.

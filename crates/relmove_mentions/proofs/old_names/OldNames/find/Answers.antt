@@ -9,7 +9,7 @@ use Rattle.relmove_mentions.proofs.old_names.OldNames.find.Goals as goal
 
 pub returns-then-not-has_percent : goal.returns-then-not-has_percent
 returns-then-not-has_percent c = λ olds has.
-    Finds-plain olds c.args.searched.file c.args.bytes.now
+    Finds-plain olds c.args.searched.file c.args.others c.args.bytes.now
     (sym c.has_percent.ensures ∙ c.if-not-has_percent.true) (rw c.in_default.is at (c.in_ok-old.ensures olds has))
 
 pub returns : goal.returns
@@ -24,5 +24,6 @@ returns c =
     ) refl in
     IfOk-weaker c.find_text-2.result _ _
     (λ found is olds has.
-    Finds-second olds (StandsFor olds c.args.searched.file bytes) (StandsFor olds c.args.searched.file (percent_decode bytes)) found
+    Finds-second olds c.args.others (StandsFor olds c.args.searched.file bytes)
+    (StandsFor olds c.args.searched.file (percent_decode bytes)) found
     (rw c.in_default.is at (c.in_ok-old.ensures olds has)) (rw is_text at (is olds has))) c.find_text-2.ensures

@@ -4,7 +4,8 @@ use Rattle.std.proofs.lemmas.Bool.{and_from, and_parts}
 use Rattle.std.proofs.lemmas.Result.{IfOk-weaker}
 use Rattle.relmove_mentions.specs.Mentions.{IsMention}
 use Rattle.relmove_mentions.specs.Spans.{others_in, span_bytes}
-use Rattle.relmove_mentions.specs.OldNames.{may_end}
+use Rattle.relmove_mentions.specs.Endings.{may_end}
+use Rattle.relmove_mentions.specs.OldNames.{WithOthers}
 use Rattle.relmove_mentions.specs.Written.{IsWritten}
 use Rattle.relmove_mentions.proofs.OldNamesLemmas.{Finds-map}
 use Rattle.relmove_mentions.proofs.WrittenLemmas.{may_end-written}
@@ -15,7 +16,7 @@ returns-then-not-can_end c = λ olds has old is_old is.
     let bytes = span_bytes c.args.searched.file.text.now c.args.span in
     let end = may_end-written olds c.args.self.now c.args.searched.file bytes old has is_old is.written in
     true≢false
-    (sym (and_from _ _ is.bounded.after (ap (may_end c.args.self.now) c.requires.ending ∙ end))
+    (sym (and_from _ _ is.bounded.after (ap (may_end c.args.self.now.endings) c.requires.ending ∙ end))
     ∙ sym c.can_end.ensures ∙ c.if-not-can_end.true)
 
 pub returns-then-not-is_unread : goal.returns-then-not-is_unread
@@ -29,8 +30,9 @@ returns c =
     let bytes = span_bytes text c.args.span in
     IfOk-weaker c.find.result _ _
     (λ found finds olds has.
-    Finds-map olds (IsWritten olds c.args.searched.file bytes) (IsMention olds c.args.searched.file c.args.span) found
-    (λ old is_old written. record {
+    Finds-map olds (WithOthers c.args.others (IsWritten olds c.args.searched.file bytes))
+    (IsMention olds c.args.searched.file c.args.span) found
+    (λ old is_old (some, written). record {
       is_old = is_old;
       bounded = record {
         order = c.requires.order;
@@ -38,9 +40,9 @@ returns c =
         before = c.requires.before;
         after = (and_parts _ _ (sym c.can_end.ensures ∙ c.if-not-can_end.false)).0;
       };
-      few = subst (λ most. others_in (span_bytes c.args.searched.file.text.now c.args.span) ≤ most) has.most c.requires.few;
+      few = subst (λ n. n ≤ others_in old) c.requires.others some;
       unread =
           sym (c.requires.passed c.args.span (omega arith)) ∙ sym c.is_unread.ensures ∙ c.if-not-is_unread.false;
       written = written;
     })
-    (λ old is. is.written) (finds olds has)) c.find.ensures
+    (λ old is. (subst (λ n. n ≤ others_in old) (sym c.requires.others) is.few, is.written)) (finds olds has)) c.find.ensures

@@ -8,7 +8,7 @@ use Rattle.relmove_mentions.proofs.OldNamesLemmas.{LeadsToPath-two}
 use Rattle.relmove_mentions.proofs.old_names.OldNames.find_below.Goals as goal
 
 pub returns-then-not-may_have_two : goal.returns-then-not-may_have_two
-returns-then-not-may_have_two c = λ olds has old is_old leads.
+returns-then-not-may_have_two c = λ olds has old is_old (few, leads).
     let set = c.args.self.now in
     let two = LeadsToPath-two olds set (base_components c.args.base) (path_components c.args.path) old has is_old leads in
     true≢false

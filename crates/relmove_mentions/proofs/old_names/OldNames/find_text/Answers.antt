@@ -5,21 +5,21 @@ use Rattle.relative_path.specs.Naming.{file_name_of}
 use Rattle.relative_path.specs.RelativePath.{path_text}
 use Rattle.relative_path.specs.Steps.{components}
 use Rattle.relmove_mentions.specs.NameHashes.{last_two_hash}
-use Rattle.relmove_mentions.specs.OldNames.{Finds, may_have_two}
+use Rattle.relmove_mentions.specs.OldNames.{Finds, WithOthers, may_have_two}
 use Rattle.relmove_mentions.specs.Written.{LeadsFromDirectory, LeadsFromTop}
 use Rattle.relmove_mentions.proofs.OldNamesLemmas.{Finds-second, StandsFor-last, StandsFor-last_two}
 use Rattle.relmove_mentions.proofs.WrittenLemmas.{Finds-text}
 use Rattle.relmove_mentions.proofs.old_names.OldNames.find_text.Goals as goal
 
 pub returns-then-not-has_last_name : goal.returns-then-not-has_last_name
-returns-then-not-has_last_name c = λ olds has old is_old stands.
+returns-then-not-has_last_name c = λ olds has old is_old (some, stands).
     let is_text : path_text c.new-path.result ≡ c.args.text.now = c.new-path.ensures ∙ c.in-Ok.ensures.cases.0 in
     let last = StandsFor-last olds c.args.self.now c.args.searched.file c.args.text.now c.in-Some.last.now old has is_old
     (rw is_text at (sym c.in-Some.ensures.text)) stands in
     true≢false (sym last.listed ∙ sym c.has_last_name.ensures ∙ c.if-not-has_last_name.true)
 
 pub returns-then-not-may_have_two : goal.returns-then-not-may_have_two
-returns-then-not-may_have_two c = λ olds has old is_old stands.
+returns-then-not-may_have_two c = λ olds has old is_old (some, stands).
     let is_text : path_text c.new-path.result ≡ c.args.text.now = c.new-path.ensures ∙ c.in-Ok.ensures.cases.0 in
     let two = StandsFor-last_two olds c.args.self.now c.args.searched.file c.args.text.now old has is_old stands in
     true≢false
@@ -34,8 +34,8 @@ returns c =
     let named : IsSome (file_name_of (path_text c.new-path.result)) = subst IsSome c.in-Some.ensures.text refl in
     IfOk-weaker c.find_from_top.result _ _
     (λ found is olds has.
-    let none : Finds olds (LeadsFromDirectory olds file (path_text c.new-path.result)) None =
+    let none : Finds olds (WithOthers c.args.others (LeadsFromDirectory olds file (path_text c.new-path.result))) None =
     rw c.in_default-2.is at (c.in_ok-old.ensures olds has) in
-    Finds-text olds file text found c.in-Ok.ensures.cases.1 (rw is_text at named)
-    (Finds-second olds (LeadsFromDirectory olds file text) (LeadsFromTop olds file text) found (rw is_text at none)
+    Finds-text olds file c.args.others text found c.in-Ok.ensures.cases.1 (rw is_text at named)
+    (Finds-second olds c.args.others (LeadsFromDirectory olds file text) (LeadsFromTop olds file text) found (rw is_text at none)
     (rw is_text at (is olds has)))) c.find_from_top.ensures

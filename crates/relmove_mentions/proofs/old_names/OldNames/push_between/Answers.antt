@@ -1,17 +1,25 @@
 -- Each turn appends the mentions that begin at the next offset.
 use Rattle.std.proofs.Common.{◌≡◌, arith, subst}
 use Rattle.relmove_mentions.specs.Mentions.{AreMentionsBefore}
+use Rattle.relmove_mentions.proofs.MentionsLemmas.{HaveOthersFrom-later}
 use Rattle.relmove_mentions.proofs.old_names.OldNames.push_between.Goals as goal
 
 pub loop-start-init : goal.loop-start-init
 loop-start-init c = record {
+  after = omega arith;
   before = c.requires.order;
   passed = c.requires.passed;
   so_far = λ olds has before. before;
 }
 
+pub push_from-requires-clause-wide : goal.push_from-requires-clause-wide
+push_from-requires-clause-wide c = λ olds has.
+    HaveOthersFrom-later olds c.args.searched.file c.args.span.start c.loop-start.start c.args.wide c.loop-start.invariant.after
+    (c.requires.wide olds has)
+
 pub loop-start-preserved : goal.loop-start-preserved
 loop-start-preserved c = record {
+  after = omega (arith, c.loop-start.invariant.after);
   before = omega (arith, c.loop-start-test.true);
   passed = λ span later. c.count_passed-passed.ensures span (omega (arith, later));
   so_far = λ olds has before. c.in_ok-push_from.ensures olds has (c.loop-start.invariant.so_far olds has before);

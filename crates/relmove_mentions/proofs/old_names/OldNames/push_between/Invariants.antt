@@ -7,6 +7,7 @@ use Rattle.relmove_mentions.proofs.old_names.OldNames.push_between.Given as goal
 
 abbrev pub invariant-loop-start : goal.invariant-loop-start
 invariant-loop-start l = record {
+  after : l.span.start ≤ l.start;
   before : l.start ≤ l.span.end;
   passed : ArePassed l.searched.file.read.now l.passed l.start;
   so_far : (olds : List (List ℕ)) → Has olds l.self → AreMentionsBefore olds l.searched.file l.fn.mentions.items l.span.start 0

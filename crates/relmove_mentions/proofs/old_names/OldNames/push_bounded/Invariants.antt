@@ -10,7 +10,7 @@ abbrev pub invariant-loop-end : goal.invariant-loop-end
 invariant-loop-end l = record {
   order : l.start ≤ l.end;
   within : l.end ≤ length l.searched.file.text.now;
-  others : others_in (take (l.end - l.start) (drop l.start l.searched.file.text.now)) + l.left ≡ l.self.most_others;
+  others : others_in (take (l.end - l.start) (drop l.start l.searched.file.text.now)) + l.left ≡ l.most;
   ending : l.ending ≡ ending_of (take (l.end - l.start) (drop l.start l.searched.file.text.now));
   so_far : (olds : List (List ℕ)) → Has olds l.self → AreMentionsBefore olds l.searched.file l.fn.mentions.items l.start 0
       → AreMentionsBefore olds l.searched.file l.mentions.items l.start (l.end + 1);
