@@ -335,28 +335,28 @@ KeepsLinks-rewritten finds p page edits text is = record {
 -- ---- the pages of a site
 
 -- a page that is rewritten between its normal directories is rewritten between its directories
-pub ForMovedPage-rewritten : (finds : List ℕ → List Target → Type 0) (root : Option (List Step)) (moves : List Move)
+pub ForMovedPage-rewritten : (finds : List ℕ → List Target → Type 0) (root : Option (List Step)) (moves links : List Move)
     (page : List Step) (moved : PageMove) (text : List ℕ) (edits : List Edit) (new : Option (String Global))
     → IsNormalTextOf (directory page) moved.before
     → AtTreePath moves page (λ now. IsNormalTextOf now moved.path × IsNormalTextOf (directory now) moved.after)
-    → IsRewritten finds (page_moving root moves moved) text edits new
+    → IsRewritten finds (page_moving root links moved) text edits new
     → AtTreePath moves page (λ now. IsNormalTextOf now moved.path
-    × IsRewritten finds (moved_to root moves page now) text edits new)
-ForMovedPage-rewritten finds root moves page moved text edits new before (now, there, (normal, after)) is = (
+    × IsRewritten finds (moved_to root links page now) text edits new)
+ForMovedPage-rewritten finds root moves links page moved text edits new before (now, there, (normal, after)) is = (
   now,
   there,
   (
     normal,
-    IsRewritten-same (page_moving root moves moved) (moved_to root moves page now)
+    IsRewritten-same (page_moving root links moved) (moved_to root links page now)
         (record { moves = refl; before = IsSame-sym before.same; after = IsSame-sym after.same; root = refl }) finds text edits
         new is,
   ),
 )
 
-module _ (finds : List ℕ → List Target → Type 0) (root : Option (List Step)) (moves : List Move) where
+module _ (finds : List ℕ → List Target → Type 0) (root : Option (List Step)) (moves links : List Move) where
   -- rewritten pages keep their links
   pub KeepTheirLinks-rewritten : (pages : List SitePage) (news : List MovedSitePage)
-      → AreRewritten finds root moves pages news → KeepTheirLinks finds root moves pages news
+      → AreRewritten finds root moves links pages news → KeepTheirLinks finds root moves links pages news
   KeepTheirLinks-rewritten [] [] are = tt
   KeepTheirLinks-rewritten [] (new ∷ news) are = absurd are
   KeepTheirLinks-rewritten (page ∷ pages) [] are = absurd are
@@ -366,34 +366,34 @@ module _ (finds : List ℕ → List Target → Type 0) (root : Option (List Step
       there,
       (
         normal,
-        KeepsLinks-rewritten finds (moved_to root moves (components page.path.now) now) page.text.now new.edits.items new.text is,
+        KeepsLinks-rewritten finds (moved_to root links (components page.path.now) now) page.text.now new.edits.items new.text is,
       ),
     ),
     KeepTheirLinks-rewritten pages news are,
   )
 
 -- the pages so far are rewritten
-pub record SiteSoFar (finds : List ℕ → List Target → Type 0) (root : Option (List Step)) (moves : List Move)
+pub record SiteSoFar (finds : List ℕ → List Target → Type 0) (root : Option (List Step)) (moves links : List Move)
     (pages : List SitePage) (left : List SitePage) (news : List MovedSitePage) : Type 0 where
-  pub rewritten : (more : List MovedSitePage) → AreRewritten finds root moves left more
-      → AreRewritten finds root moves pages (news ++ more)
+  pub rewritten : (more : List MovedSitePage) → AreRewritten finds root moves links left more
+      → AreRewritten finds root moves links pages (news ++ more)
 
 -- so is the next one
-pub SiteSoFar-next : (finds : List ℕ → List Target → Type 0) (root : Option (List Step)) (moves : List Move)
+pub SiteSoFar-next : (finds : List ℕ → List Target → Type 0) (root : Option (List Step)) (moves links : List Move)
     (pages : List SitePage) (page : SitePage) (k : ℕ) (news : List MovedSitePage) (new : MovedSitePage) → k < length pages
-    → page ≡ get_or pages k page → ForMovedPage (IsRewritten finds) root moves page new
-    → SiteSoFar finds root moves pages (drop k pages) news
-    → SiteSoFar finds root moves pages (drop (k + 1) pages) (news ++ new ∷ [])
-SiteSoFar-next finds root moves pages page k news new within is one so_far = record {
+    → page ≡ get_or pages k page → ForMovedPage (IsRewritten finds) root moves links page new
+    → SiteSoFar finds root moves links pages (drop k pages) news
+    → SiteSoFar finds root moves links pages (drop (k + 1) pages) (news ++ new ∷ [])
+SiteSoFar-next finds root moves links pages page k news new within is one so_far = record {
   rewritten = λ more rest.
       let left = drop_more pages k page within ∙ ap (λ next. next ∷ drop (k + 1) pages) (sym is) in
-      subst (AreRewritten finds root moves pages) (sym (append_assoc news (new ∷ []) more))
+      subst (AreRewritten finds root moves links pages) (sym (append_assoc news (new ∷ []) more))
       (so_far.rewritten (new ∷ more)
-      (subst (λ pages. AreRewritten finds root moves pages (new ∷ more)) (sym left) (one, rest)));
+      (subst (λ pages. AreRewritten finds root moves links pages (new ∷ more)) (sym left) (one, rest)));
 }
 
-pub SiteSoFar-end : (finds : List ℕ → List Target → Type 0) (root : Option (List Step)) (moves : List Move)
-    (pages left : List SitePage) (news : List MovedSitePage) → left ≡ [] → SiteSoFar finds root moves pages left news
-    → AreRewritten finds root moves pages news
-SiteSoFar-end finds root moves pages left news none so_far =
-    subst (AreRewritten finds root moves pages) (append-nil news) (so_far.rewritten [] (rw none tt))
+pub SiteSoFar-end : (finds : List ℕ → List Target → Type 0) (root : Option (List Step)) (moves links : List Move)
+    (pages left : List SitePage) (news : List MovedSitePage) → left ≡ [] → SiteSoFar finds root moves links pages left news
+    → AreRewritten finds root moves links pages news
+SiteSoFar-end finds root moves links pages left news none so_far =
+    subst (AreRewritten finds root moves links pages) (append-nil news) (so_far.rewritten [] (rw none tt))

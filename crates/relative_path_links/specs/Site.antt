@@ -103,24 +103,24 @@ pub record KeepsLinks (finds : List ℕ → List Target → Type 0) (p : PageMov
   pub text_is : HasText finds page edits text
   pub same : NothingMoves p page (targets_of edits) → IsNone text
 
--- the moves, with the directory of a page at this path before them and of the page at its new path after them, and the
--- site's root
+-- the moves of what links lead to, with the directory of a page at this path before the moves and of the page at its new path
+-- after them, and the site's root
 abbrev pub moved_to : Option (List Step) → List Move → List Step → List Step → PageMoving
-moved_to root moves page now = record { moves = moves; before = directory page; after = directory now; root = root }
+moved_to root links page now = record { moves = links; before = directory page; after = directory now; root = root }
 
--- P holds of a page: of its text, its edits and its new text, as it moves from its path to its new path
+-- P holds of a page: of its text, its edits and its new text, as it moves from its path to its new path, and what links lead
+-- to by moves of its own
 abbrev pub ForMovedPage : (PageMoving → List ℕ → List Edit → Option (String Global) → Type 0) → Option (List Step)
-    → List Move → SitePage → MovedSitePage
-    → Type 0
-ForMovedPage P root moves page new = AtTreePath moves (components page.path.now) (λ now. IsNormalTextOf now new.path
-    × P (moved_to root moves (components page.path.now) now) page.text.now new.edits.items new.text)
+    → List Move → List Move → SitePage → MovedSitePage → Type 0
+ForMovedPage P root moves links page new = AtTreePath moves (components page.path.now) (λ now. IsNormalTextOf now new.path
+    × P (moved_to root links (components page.path.now) now) page.text.now new.edits.items new.text)
 
--- the pages of a site with this root are rewritten
-abbrev pub AreRewritten : (List ℕ → List Target → Type 0) → Option (List Step) → List Move → List SitePage
+-- the pages of a site with this root are rewritten: each moves by the first moves, and what links lead to by the second
+abbrev pub AreRewritten : (List ℕ → List Target → Type 0) → Option (List Step) → List Move → List Move → List SitePage
     → List MovedSitePage → Type 0
-AreRewritten finds root moves pages news = AllZip (ForMovedPage (IsRewritten finds) root moves) pages news
+AreRewritten finds root moves links pages news = AllZip (ForMovedPage (IsRewritten finds) root moves links) pages news
 
--- the pages of a site with this root keep their links
-abbrev pub KeepTheirLinks : (List ℕ → List Target → Type 0) → Option (List Step) → List Move → List SitePage
+-- the pages of a site with this root keep their links: each moves by the first moves, and what links lead to by the second
+abbrev pub KeepTheirLinks : (List ℕ → List Target → Type 0) → Option (List Step) → List Move → List Move → List SitePage
     → List MovedSitePage → Type 0
-KeepTheirLinks finds root moves pages news = AllZip (ForMovedPage (KeepsLinks finds) root moves) pages news
+KeepTheirLinks finds root moves links pages news = AllZip (ForMovedPage (KeepsLinks finds) root moves links) pages news

@@ -34,6 +34,9 @@ pub struct MovedSitePage {
 /// Rewrites the pages of a site after the moves of a table. Each link then leads to the file to which it led
 /// before, wherever that file is now, or it is left.
 ///
+/// The pages move by `moves`, and what links lead to by `links`. Both are one table, unless a site shows pages under other
+/// names: if it shows `a.md` as `a.html`, and `a.md` moves to `b.md`, `links` also has the move of `a.html` to `b.html`.
+///
 /// The links of a page are those whose targets the finder finds, as [`Markdown`](crate::Markdown) does. A link
 /// leads, as a browser reads its target, from the directory of its page, or from the site's root, if that is known and
 /// the target begins with one slash. All bytes outside the targets stay. A page stays as it is if its directory doesn't
@@ -53,27 +56,28 @@ pub struct MovedSitePage {
 /// let moves = TreeMoves::new(alloc, &moves)?;
 /// let index = NormalPath::of(alloc, RelativePath::new("index.md"))?;
 /// let page = SitePage { path: &index, text: "[a](guide/a.md)" };
-/// let moved = rewrite_site(alloc, &[page], &SiteRoot::unknown(), &moves, &Markdown)?;
+/// let moved = rewrite_site(alloc, &[page], &SiteRoot::unknown(), &moves, &moves, &Markdown)?;
 /// assert_eq!(rt; moved[0].path.as_relative_path().as_str(), "index.md");
 /// assert_eq!(rt; moved[0].text.as_deref(), Some("[a](docs/guide/a.md)"));
 /// ```
-pub fn rewrite_site<F: Finder>(
+pub fn rewrite_site<'m, F: Finder>(
     alloc: Global,
     pages: &[SitePage<'_>],
     root: &SiteRoot,
-    moves: &TreeMoves<'_>,
+    moves: &TreeMoves<'m>,
+    links: &TreeMoves<'m>,
     finder: &F,
 ) -> Result<Vec<MovedSitePage>, AllocError>
     // each page as by `rewrite_links`, but for targets that are given up, at its path after the moves
     ensures rewritten { IfOk result
-        (λ new. AreRewritten (F.finds finder.now) root.now moves.now pages.now new.items) }
+        (λ new. AreRewritten (F.finds finder.now) root.now moves.now links.now pages.now new.items) }
     // each link that is read still leads to its file, query and fragment kept, or is left, and is found again
     ensures links { IfOk result
-        (λ new. KeepTheirLinks (F.finds finder.now) root.now moves.now pages.now new.items) }
+        (λ new. KeepTheirLinks (F.finds finder.now) root.now moves.now links.now pages.now new.items) }
 {
     let mut moved = Vec::with_capacity(alloc, pages.len())?;
     for page in pages {
-        moved.push(moved_page(alloc, *page, root, moves, finder)?)?;
+        moved.push(moved_page(alloc, *page, root, moves, links, finder)?)?;
     }
     Ok(moved)
 }
@@ -84,13 +88,14 @@ fn moved_page<F: Finder>(
     page: SitePage<'_>,
     root: &SiteRoot,
     moves: &TreeMoves<'_>,
+    links: &TreeMoves<'_>,
     finder: &F,
 ) -> Result<MovedSitePage, AllocError>
-    ensures { IfOk result (ForMovedPage (IsRewritten (F.finds finder.now)) root.now moves.now page.entry) }
+    ensures { IfOk result (ForMovedPage (IsRewritten (F.finds finder.now)) root.now moves.now links.now page.entry) }
 {
     let targets = finder.targets(alloc, page.text)?;
     let moved = moves.moved_page(alloc, page.path)?;
-    let edits = rewrite_links(alloc, page.text, &targets, root, moves, &moved)?;
+    let edits = rewrite_links(alloc, page.text, &targets, root, links, &moved)?;
     let settled = settle(alloc, page.text, edits, finder)?;
     Ok(MovedSitePage {
         path: moved.path,

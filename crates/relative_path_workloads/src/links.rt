@@ -72,7 +72,7 @@ pub(crate) fn plan<'t>(
     }
     let root = SiteRoot::unknown();
     let mut store = rt.store_at("site")?;
-    let Ok(moving) = moving_of(&mut store, tree, &root, &pairs, NameRule::Plain) else {
+    let Ok(moving) = moving_of(&mut store, tree, &root, None, &pairs, NameRule::Plain) else {
         return Err(refused());
     };
     add_moving(tree, &moving, digest);

@@ -55,6 +55,8 @@ pub enum Task<'a> {
         excluded: Vec<&'a str>,
         /// The path after `--site-root`.
         site_root: Option<&'a str>,
+        /// The form after `--pages-as`.
+        pages_as: Option<PagesAs>,
         /// `--write`
         write: bool,
         /// `--json`
@@ -350,7 +352,6 @@ fn has(words: &[&str], word: &str) -> bool {
 // The call that moves files.
 fn move_of<'a>(alloc: Global, words: &Words<'a>) -> Result<Task<'a>, WrongCall<'a>> {
     words.need_none("--fragments")?;
-    words.need_none("--pages-as")?;
     words.need_none("--trust-journal")?;
     let Some((root, paths)) = words.operands.split_first() else {
         return Err(WrongCall::NoRoot);
@@ -366,6 +367,7 @@ fn move_of<'a>(alloc: Global, words: &Words<'a>) -> Result<Task<'a>, WrongCall<'
         into: directory.is_some(),
         excluded: words.values(alloc, "--exclude")?,
         site_root: words.value("--site-root")?,
+        pages_as: pages_as_of(words)?,
         write: words.has("--write"),
         json: words.has("--json"),
         verbose: words.has("--verbose"),

@@ -1,6 +1,6 @@
 //! What moves do to a tree.
 use relative_path_links::Unchanged;
-use relmove_folder::Position;
+use relmove_folder::{Position, ShownMove};
 use relmove_plan::Plan;
 
 /// Where a path leads after moves that led to something else before them.
@@ -58,4 +58,6 @@ pub struct Moving<'a, 'm> {
     pub left: Vec<LeftLink<'a>>,
     /// The symbolic links that no longer lead to what they led to, and aren't among those of the plan.
     pub lost: Vec<LostSymlink<'a>>,
+    /// The moves of the names under which the site shows pages. Links to these names move along.
+    pub shown: Vec<ShownMove>,
 }

@@ -6,7 +6,7 @@
 //! ```text
 //! what is in the pages    dead_links  mentions
 //! parts of these          fragments  search
-//! what it knows           moved_names  targets  places
+//! what it knows           moved_names  targets  places  shown_names
 //! what moves, and whence  moving_tree  bases  words
 //! what is at a path       presence  seen  site_root
 //! what a check finds      checked  pages_as
@@ -19,11 +19,12 @@ pub use self::checked::{Checked, DeadLink, WhyDead};
 pub use self::dead_links::{LinkOptions, check_links, dead_links_of, leads_somewhere};
 pub use self::mentions::{SearchOptions, mentions_of};
 pub use self::moving_tree::shown_path;
-pub use self::pages_as::PagesAs;
+pub use self::pages_as::{PagesAs, ShownMove};
 pub use self::places::{MOST_PLACES, MentionPlace, MentionPlaces};
 pub use self::position::{Position, Positions, position_after};
 pub use self::presence::{Presence, presence_at};
 pub use self::seen::{Seen, find, known_answer, seen_by_system};
+pub use self::shown_names::shown_moves;
 pub use self::site_root::site_root_at;
 pub use self::tree::{
     EntryKind, LONGEST_PAGE, Page, Tree, Unread, cannot_read, has_path, has_reserved_name,
@@ -45,6 +46,7 @@ mod position;
 mod presence;
 mod search;
 mod seen;
+mod shown_names;
 mod site_root;
 mod targets;
 mod tree;

@@ -2,6 +2,7 @@
 use crate::extensions::is_searched_file;
 use crate::moved_names::{Names, SearchedPaths, relative_paths};
 use crate::moving_tree::MovingTree;
+use crate::pages_as::ShownMove;
 use crate::places::MentionPlaces;
 use crate::search::Search;
 use crate::seen::find;
@@ -23,6 +24,8 @@ pub struct SearchOptions<'a> {
     pub excluded: &'a [&'a str],
     /// Whether the moves were made before the call. Files then have the paths that they have now.
     pub made: bool,
+    /// The moves of the names under which the site shows pages, by which links to these names are mended.
+    pub shown: &'a [ShownMove],
 }
 
 /// Finds where the old paths of moves are written: in pages outside the targets that are read, and in other files with
@@ -44,6 +47,7 @@ pub fn mentions_of<S: Store>(
         moves,
         made: options.made,
         numbers: &paths.numbers,
+        shown: options.shown,
     };
     search_all(store, moving, &paths, pages, options.excluded)
 }

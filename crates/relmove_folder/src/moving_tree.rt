@@ -1,4 +1,5 @@
 //! A tree, and the moves in it.
+use crate::pages_as::ShownMove;
 use crate::tree::{EntryKind, Tree, is_directory_entry};
 use relative_path::RelativePath;
 use relative_path_moves::{Move, TreeMoves};
@@ -16,6 +17,8 @@ pub struct MovingTree<'a, 'm> {
     pub made: bool,
     /// The number of each move, by its old path.
     pub numbers: &'a BTreeMap<String, usize>,
+    /// The moves of the names under which the site shows pages.
+    pub shown: &'a [ShownMove],
 }
 
 impl MovingTree<'_, '_> {
@@ -32,6 +35,11 @@ impl MovingTree<'_, '_> {
     /// Whether a regular file is at a path. Allocates nothing.
     pub fn is_file(&self, path: &str) -> bool {
         matches!(self.tree.entries.get(path), Some(EntryKind::File))
+    }
+
+    /// Whether a path is a name under which the site shows a page that moves, and links to it move along. Allocates nothing.
+    pub fn is_shown_name(&self, path: &str) -> bool {
+        self.shown.iter().any(|a| a.old.as_str() == path)
     }
 
     /// The index page of a directory that stays, if it leaves the directory or gets another name. Allocates its path.
@@ -69,6 +77,14 @@ impl MovingTree<'_, '_> {
 
 // The names of a page for which its directory can stand.
 const INDEX_NAMES: [&str; 3] = ["README.md", "index.md", "_index.md"];
+
+/// Whether a path is that of a page for which its directory can stand. Allocates nothing.
+pub fn is_index_page(path: RelativePath<'_>) -> bool {
+    match path.file_name() {
+        Some(name) => INDEX_NAMES.iter().any(|other| *other == name),
+        None => false,
+    }
+}
 
 /// Returns the path by which what was at a path before moves is named: the one after them, if they were made before the call.
 /// Allocates it.

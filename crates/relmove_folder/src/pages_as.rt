@@ -77,3 +77,12 @@ pub(crate) fn ends_in_dots(path: &str) -> bool {
 
 // The extensions of pages.
 const EXTENSIONS: [&str; 2] = ["md", "markdown"];
+
+/// A move of a name under which a site shows a page.
+#[derive(Debug, PartialEq, Eq, Drop)]
+pub struct ShownMove {
+    /// The name before the move.
+    pub old: String,
+    /// The name after it.
+    pub new: String,
+}

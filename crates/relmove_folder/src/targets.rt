@@ -69,7 +69,8 @@ impl<'e> PageTargets<'e> {
     }
 
     // Adds a target that leads to a path, and has a new text or none. One that leads to nothing can mean a page by another
-    // name, and one to a directory that stays can mean the directory's index page.
+    // name, unless that name has a move, by which it has its new text. One to a directory that stays can mean the directory's
+    // index page.
     fn add_path(
         &mut self,
         alloc: Global,
@@ -87,7 +88,9 @@ impl<'e> PageTargets<'e> {
             return Ok(());
         }
         if presence_at(moving.tree, file.as_str()) == Presence::Absent {
-            if is_new {
+            if is_new && moving.is_shown_name(file.as_str()) {
+                self.read.push(span)?;
+            } else if is_new {
                 self.rewritten.push(target)?;
             }
             return Ok(());

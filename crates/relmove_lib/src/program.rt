@@ -121,6 +121,7 @@ fn obey<R: Machine, I: Read, O: Write, E: Write>(
             into,
             excluded,
             site_root,
+            pages_as,
             write,
             json,
             verbose,
@@ -132,6 +133,7 @@ fn obey<R: Machine, I: Read, O: Write, E: Write>(
                 made,
                 excluded: &excluded,
                 site_root,
+                pages_as,
                 write,
                 json,
                 verbose,
@@ -170,6 +172,7 @@ struct MoveOptions<'a> {
     made: bool,
     excluded: &'a [&'a str],
     site_root: Option<&'a str>,
+    pages_as: Option<PagesAs>,
     write: bool,
     json: bool,
     verbose: bool,
@@ -508,7 +511,12 @@ fn plan_any<'a, 'm, S: Store, O: Write, E: Write>(
 
 // What moves do, with other actions.
 fn with_actions<'a, 'm>(moving: Moving<'a, 'm>, actions: Actions) -> Moving<'a, 'm> {
-    let Moving { plan, left, lost } = moving;
+    let Moving {
+        plan,
+        left,
+        lost,
+        shown,
+    } = moving;
     let Plan {
         moves,
         pages,
@@ -524,6 +532,7 @@ fn with_actions<'a, 'm>(moving: Moving<'a, 'm>, actions: Actions) -> Moving<'a, 
         },
         left,
         lost,
+        shown,
     }
 }
 
@@ -538,15 +547,24 @@ fn plan<'a, 'm, S: Store, O: Write, E: Write>(
     errors: &mut E,
 ) -> Result<(Moving<'a, 'm>, Counts, Status), CallEnd> {
     let root = need_site_root(store, tree, options.site_root, errors)?;
-    let mut moving = match moving_of(store, tree, &root, moves, options.rule) {
+    let mut moving = match moving_of(store, tree, &root, options.pages_as, moves, options.rule) {
         Ok(moving) => moving,
         Err(why) => return Err(refuse_moves(store, tree, moves, &why, errors)),
     };
     if options.made {
-        keep_dead_targets(store, tree, &mut moving.plan.pages)?;
+        keep_dead(store, tree, &mut moving)?;
     }
     let (counts, status) = report(store, tree, moves, &moving, options, out, errors)?;
     Ok((moving, counts, status))
+}
+
+// Keeps the dead targets of the pages of a plan.
+fn keep_dead<S: Store>(
+    store: &mut S,
+    tree: &Tree,
+    moving: &mut Moving<'_, '_>,
+) -> Result<(), RunFault> {
+    keep_dead_targets(store, tree, &moving.shown, &mut moving.plan.pages)
 }
 
 // The root of the site, by its path from the root. Fails if no directory is there.
@@ -580,7 +598,7 @@ fn report<S: Store, O: Write, E: Write>(
     errors: &mut E,
 ) -> Result<(Counts, Status), CallEnd> {
     let counts = counts_of(store.alloc(), tree, moves, moving, options.made)?;
-    let mentions = asked_mentions(store, tree, &moving.plan, options)?;
+    let mentions = asked_mentions(store, tree, moving, options)?;
     print_unread_files(&mentions.unread, errors);
     if print_plan(store, tree, moving, &mentions, options, out).is_err() {
         return Err(CallEnd::Status(Status::Refused));
@@ -589,18 +607,20 @@ fn report<S: Store, O: Write, E: Write>(
 }
 
 // Finds where the old paths of a plan are written, if the call asks for it.
-fn asked_mentions<S: Store>(
+fn asked_mentions<'x, S: Store>(
     store: &mut S,
     tree: &Tree,
-    plan: &Plan<'_>,
-    options: MoveOptions<'_>,
+    moving: &'x Moving<'_, '_>,
+    options: MoveOptions<'x>,
 ) -> Result<MentionPlaces, RunFault> {
+    let plan = &moving.plan;
     if options.quiet_mentions {
         return Ok(MentionPlaces::new(store.alloc(), plan.moves.moves())?);
     }
     let options = SearchOptions {
         excluded: options.excluded,
         made: options.made,
+        shown: &moving.shown,
     };
     mentions_of(store, tree, &plan.moves, &plan.pages, options)
 }

@@ -9,7 +9,9 @@ use relative_path_moves::{MoveTableError, TreeMoves};
 use relative_path_places::{NormalPath, PlaceIndex};
 use relmove_actions::Actions;
 use relmove_findings::WhyRefused;
-use relmove_folder::{EntryKind, Page, Tree, is_at_or_below, leads_somewhere, normal_text};
+use relmove_folder::{
+    EntryKind, Page, ShownMove, Tree, is_at_or_below, leads_somewhere, normal_text,
+};
 use relmove_plan::Refusal;
 use relmove_steps::{After, actions_of};
 use relmove_store::{Found, Names, PageFile, RunFault, Store};
@@ -295,10 +297,12 @@ fn copy_of(alloc: Global, kind: &EntryKind) -> Result<EntryKind, AllocError> {
 
 /// Keeps those targets of pages that moved which led to nothing before the moves: somebody may have changed them since.
 ///
-/// `store` has the files before the moves, and `tree` is theirs. Asks it for the files of the targets. Allocates new texts.
+/// `store` has the files before the moves, and `tree` is theirs. Asks it for the files of the targets, but for names under
+/// which the site shows pages that move. Allocates new texts.
 pub fn keep_dead_targets<S: Store>(
     store: &mut S,
     tree: &Tree,
+    shown: &[ShownMove],
     pages: &mut [MovedSitePage],
 ) -> Result<(), RunFault> {
     let mut number = 0usize;
@@ -306,7 +310,7 @@ pub fn keep_dead_targets<S: Store>(
         if let Some(page) = tree.pages.get(number)
             && page.path.as_str() != new.path.as_relative_path().as_str()
         {
-            keep_in_page(store, page, new)?;
+            keep_in_page(store, page, shown, new)?;
         }
         number = number.saturating_add(1);
     }
@@ -317,11 +321,12 @@ pub fn keep_dead_targets<S: Store>(
 fn keep_in_page<S: Store>(
     store: &mut S,
     page: &Page,
+    shown: &[ShownMove],
     new: &mut MovedSitePage,
 ) -> Result<(), RunFault> {
     let mut keeps = false;
     for edit in new.edits.iter_mut() {
-        if edit.is_new() && led_to_nothing(store, edit)? {
+        if edit.is_new() && led_to_nothing(store, shown, edit)? {
             edit.change = Change::Kept;
             keeps = true;
         }
@@ -332,12 +337,18 @@ fn keep_in_page<S: Store>(
     Ok(())
 }
 
-// Whether the target of an edit led to nothing.
-fn led_to_nothing<S: Store>(store: &mut S, edit: &Edit) -> Result<bool, AllocError> {
-    match &edit.file {
-        Some(file) => Ok(!leads_somewhere(store, file.as_relative_path().as_str())?),
-        None => Ok(false),
-    }
+// Whether the target of an edit led to nothing. A name under which the site shows a page that moves led to the page.
+fn led_to_nothing<S: Store>(
+    store: &mut S,
+    shown: &[ShownMove],
+    edit: &Edit,
+) -> Result<bool, AllocError> {
+    let Some(file) = &edit.file else {
+        return Ok(false);
+    };
+    let file = file.as_relative_path().as_str();
+    let is_shown = shown.iter().any(|a| a.old.as_str() == file);
+    Ok(!is_shown && !leads_somewhere(store, file)?)
 }
 
 // A page with the new targets among its edits, or `None` if there are none.

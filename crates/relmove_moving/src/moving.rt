@@ -2,12 +2,13 @@
 use crate::losses::Watch;
 use relative_path::RelativePath;
 use relative_path_links::{Change, Edit, Markdown, MovedSitePage, SitePage, SiteRoot};
-use relative_path_moves::{Move, TreeMoves};
+use relative_path_moves::{Move, MoveTableError, TreeMoves};
 use relative_path_places::NormalPath;
 use relmove_findings::{LeftLink, LostSymlink, Moving, WhyLeft, WhyRefused};
 use relmove_folder::{
-    EntryKind, Page, Positions, Presence, Tree, cannot_read, has_path, has_unread_name,
-    is_directory, is_read_directory, leads_somewhere, normal_text, presence_at,
+    EntryKind, Page, PagesAs, Positions, Presence, ShownMove, Tree, cannot_read, has_path,
+    has_unread_name, is_directory, is_read_directory, leads_somewhere, normal_text, presence_at,
+    shown_moves,
 };
 use relmove_journal::{JOURNAL, directory_of, join};
 use relmove_plan::{Entry, Kind, NameRule, Plan, Refusal, make_plan};
@@ -18,7 +19,7 @@ use std::alloc::{AllocError, Global};
 use std::io::ErrorKind;
 
 /// Plans the moves of a tree: each OLD with its NEW. Nothing is changed. Links that begin with a slash lead from the site's
-/// root. Fails with [`RunFault::TooLong`] if something in the tree gets a path that is too long for the system.
+/// root. If the site shows pages under other names, links to these names move along with the pages. Fails with [`RunFault::TooLong`] if something in the tree gets a path that is too long for the system.
 ///
 /// Asks the system whether what the links that stay lead to is there, and for the names in directories that aren't read
 /// and get longer paths. Of a link it asks for nothing else, unless the link leads through a symbolic link or into a
@@ -28,18 +29,26 @@ pub fn moving_of<'a, 'm, S: Store>(
     store: &mut S,
     tree: &'a Tree,
     root: &SiteRoot,
+    pages_as: Option<PagesAs>,
     moves: &[(&'m str, &'m str)],
     rule: NameRule,
 ) -> Result<Moving<'a, 'm>, WhyRefused> {
     let alloc = store.alloc();
     need_read_directories(alloc, moves)?;
     let pairs = pairs_of(alloc, moves)?;
-    let plan = plan_of(alloc, tree, root, &pairs, rule)?;
+    let shown = shown_by(alloc, tree, &pairs, pages_as)?;
+    let links = link_moves(alloc, moves, &shown)?;
+    let plan = plan_of(alloc, tree, root, &pairs, &links, rule)?;
     need_directories(alloc, tree, moves)?;
     need_other_names(moves)?;
     need_short_paths(store, tree, &plan.moves)?;
     let (left, lost) = losses_of(store, tree, &plan)?;
-    Ok(Moving { plan, left, lost })
+    Ok(Moving {
+        plan,
+        left,
+        lost,
+        shown,
+    })
 }
 
 // The moves, as paths.
@@ -187,12 +196,78 @@ fn cannot_ask(kind: ErrorKind) -> bool {
     cannot_read(kind) || is_absence(kind)
 }
 
+// The moves of the names under which a site shows its pages in a form. Of moves that can't be planned there are none.
+fn shown_by(
+    alloc: Global,
+    tree: &Tree,
+    moves: &[(RelativePath<'_>, RelativePath<'_>)],
+    pages_as: Option<PagesAs>,
+) -> Result<Vec<ShownMove>, AllocError> {
+    let Some(form) = pages_as else {
+        return Ok(Vec::new(alloc));
+    };
+    match table_of(alloc, moves)? {
+        Some(table) => shown_moves(alloc, tree, &table, form),
+        None => Ok(Vec::new(alloc)),
+    }
+}
+
+// The table of moves. `None` if there can't be one.
+fn table_of<'a>(
+    alloc: Global,
+    moves: &[(RelativePath<'a>, RelativePath<'a>)],
+) -> Result<Option<TreeMoves<'a>>, AllocError> {
+    match TreeMoves::new(alloc, moves) {
+        Ok(table) => Ok(Some(table)),
+        Err(MoveTableError::OutOfMemory) => Err(AllocError),
+        Err(_) => Ok(None),
+    }
+}
+
+// The moves by which links move: all moves, and those of shown names. There are none if links move as the files do.
+fn link_moves(
+    alloc: Global,
+    moves: &[(&str, &str)],
+    shown: &[ShownMove],
+) -> Result<Vec<(String, String)>, AllocError> {
+    let mut links = Vec::new(alloc);
+    if shown.is_empty() {
+        return Ok(links);
+    }
+    for (old, new) in moves {
+        links.push((String::from_str(alloc, old)?, String::from_str(alloc, new)?))?;
+    }
+    for a in shown {
+        links.push((a.old.clone()?, a.new.clone()?))?;
+    }
+    Ok(links)
+}
+
+// The table of the moves by which links move. `None` if there are none.
+fn link_table(
+    alloc: Global,
+    links: &[(String, String)],
+) -> Result<Option<TreeMoves<'_>>, AllocError> {
+    if links.is_empty() {
+        return Ok(None);
+    }
+    let mut pairs = Vec::with_capacity(alloc, links.len())?;
+    for (old, new) in links {
+        pairs.push((
+            RelativePath::new(old.as_str()),
+            RelativePath::new(new.as_str()),
+        ))?;
+    }
+    table_of(alloc, &pairs)
+}
+
 // The plan of moves.
 fn plan_of<'a>(
     alloc: Global,
     tree: &Tree,
     root: &SiteRoot,
     moves: &[(RelativePath<'a>, RelativePath<'a>)],
+    links: &[(String, String)],
     rule: NameRule,
 ) -> Result<Plan<'a>, Refusal> {
     let entries = entries_of(alloc, tree)?;
@@ -203,7 +278,8 @@ fn plan_of<'a>(
         pages: &pages,
         root,
     };
-    make_plan(alloc, tree, moves, rule, &Markdown)
+    let links = link_table(alloc, links)?;
+    make_plan(alloc, tree, moves, links.as_ref(), rule, &Markdown)
 }
 
 // The entries of a tree, as the plan takes them.

@@ -57,7 +57,7 @@ pub record IsPlanned (entries : List Entry) (pages : List SitePage) (news : List
     (actions : Actions) : Type 0 where
   pub whole : IsWhole entries (page_paths pages)
   pub accepted : AreAllowed entries moves rule
-  pub links : KeepTheirLinks finds root moves pages news
+  pub links : (links : List Move) × KeepTheirLinks finds root moves links pages news
   pub staged : BelowFirst (map (λ step. string_bytes step.from) actions.staged.items)
   pub placed : AboveFirst (map (λ step. string_bytes step.to) actions.placed.items)
   pub once : LeaveOnce (action_texts actions)
@@ -82,10 +82,10 @@ module _ {entries : List Entry} {pages : List SitePage} {news : List MovedSitePa
         × ReplacesChanged (action_texts actions) page new
 
     known_pages : AllZip IsKnownPage pages news
-    known_pages = by pages news planned.whole.files planned.links planned.replaced
+    known_pages = by pages news planned.whole.files planned.links.1 planned.replaced
       where
         by : (pages : List SitePage) (news : List MovedSitePage) → All (LeadsToFile entries) (page_paths pages)
-            → KeepTheirLinks finds root moves pages news → ReplacesPages pages news (action_texts actions)
+            → KeepTheirLinks finds root moves planned.links.0 pages news → ReplacesPages pages news (action_texts actions)
             → AllZip IsKnownPage pages news
         by [] [] files links replaced = tt
         by [] (new ∷ news) files links replaced = absurd links

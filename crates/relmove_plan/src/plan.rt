@@ -1,5 +1,6 @@
 //! The plan of a run.
 ghost use Rattle.std.specs.Prelude.{◌≡◌, All, IfErr, IfOk, OnOk, map, string_bytes};
+ghost use Rattle.std.specs.Option.{option_map_or};
 ghost use Rattle.relative_path_links.specs.Site.{AreRewritten, KeepTheirLinks};
 ghost use Rattle.relative_path_moves.specs.Moves.{moves_of};
 ghost use Rattle.relmove_checks.specs.Moves.{EachMove};
@@ -22,7 +23,7 @@ use relative_path_moves::TreeMoves;
 use relmove_actions::Actions;
 use relmove_checks::{Entry, NameRule, Refusal, coming_index, entry_index, leaving_table};
 use relmove_steps::{After, actions_of};
-use std::alloc::Global;
+use std::alloc::{AllocError, Global};
 
 /// A tree of files, and the pages among them.
 #[derive(Clone, Copy, Debug)]
@@ -53,10 +54,14 @@ pub struct Plan<'a> {
 /// Plans to move files and directories of a tree, each from its old path to its new one, and to change the pages so that
 /// each link leads to the file to which it led before, or is reported. The links of a page are those whose targets the finder
 /// finds.
+///
+/// What links lead to moves as the files do, unless there is a table `links` for it. Such a table has the same moves, and those
+/// of other names under which links mean files, as `a.html` for a page `a.md`.
 pub fn make_plan<'a, F: Finder>(
     alloc: Global,
     tree: SiteTree<'_>,
     moves: &[(RelativePath<'a>, RelativePath<'a>)],
+    links: Option<&TreeMoves<'_>>,
     rule: NameRule,
     finder: &F,
 ) -> Result<Plan<'a>, Refusal>
@@ -64,10 +69,10 @@ pub fn make_plan<'a, F: Finder>(
     ensures table { IfOk result (λ plan. plan.moves ≡ moves_of moves.now) }
     // each link that is read still leads to its file, query and fragment kept, or is left; just pages with a text change
     ensures links { IfOk result (λ plan. KeepTheirLinks (F.finds finder.now) tree.entry.root.now (moves_of moves.now)
-        tree.entry.pages.now plan.pages.items) }
+        (option_map_or (λ table. table.now) links.entry (moves_of moves.now)) tree.entry.pages.now plan.pages.items) }
     // each page as by `rewrite_links`, but for targets that are given up, at its path after the moves
     ensures rewritten { IfOk result (λ plan. AreRewritten (F.finds finder.now) tree.entry.root.now (moves_of moves.now)
-        tree.entry.pages.now plan.pages.items) }
+        (option_map_or (λ table. table.now) links.entry (moves_of moves.now)) tree.entry.pages.now plan.pages.items) }
     // the moves pass each check
     ensures accepted { OnOk result (AreAllowed tree.entry.entries.now (moves_of moves.now) rule) }
     // staging names are `.relmove-` and a number, all different, and no entry is at one
@@ -108,7 +113,7 @@ pub fn make_plan<'a, F: Finder>(
     let index = entry_index(alloc, tree.entries)?;
     let table = leaving_table(alloc, tree.entries, &index, moves, rule)?;
     let after = coming_index(alloc, tree.entries, &index, &table)?;
-    let pages = rewrite_site(alloc, tree.pages, tree.root, &table, finder)?;
+    let pages = rewrite_pages(alloc, tree, &table, links, finder)?;
     let symlinks = symlink_notices(alloc, tree.entries, &table)?;
     let now = After {
         index: &index,
@@ -123,4 +128,23 @@ pub fn make_plan<'a, F: Finder>(
         symlinks,
         actions,
     })
+}
+
+// Returns the pages of a tree after the moves of a table. What links lead to moves by its own table, if there is one.
+fn rewrite_pages<F: Finder>(
+    alloc: Global,
+    tree: SiteTree<'_>,
+    table: &TreeMoves<'_>,
+    links: Option<&TreeMoves<'_>>,
+    finder: &F,
+) -> Result<Vec<MovedSitePage>, AllocError>
+    ensures links { IfOk result (λ pages. KeepTheirLinks (F.finds finder.now) tree.entry.root.now table.now
+        (option_map_or (λ links. links.now) links.entry table.now) tree.entry.pages.now pages.items) }
+    ensures rewritten { IfOk result (λ pages. AreRewritten (F.finds finder.now) tree.entry.root.now table.now
+        (option_map_or (λ links. links.now) links.entry table.now) tree.entry.pages.now pages.items) }
+{
+    match links {
+        Some(links) => rewrite_site(alloc, tree.pages, tree.root, table, links, finder),
+        None => rewrite_site(alloc, tree.pages, tree.root, table, table, finder),
+    }
 }

@@ -78,10 +78,10 @@ pub fn carry_out_moves<F: Finder, E: PlanInitiator>(
         → IsErrOf result (Refused (ReservedName k)) }
     // each link that is read still leads to its file, query and fragment kept, or is left; just pages with a text change
     ensures links { IfOk result (λ pages. KeepTheirLinks (F.finds finder.now) tree.entry.root.now (moves_of moves.now)
-        tree.entry.pages.now pages.items) }
+        (moves_of moves.now) tree.entry.pages.now pages.items) }
     // each page as by `rewrite_links`, but for targets that are given up, at its path after the moves
     ensures rewritten { IfOk result (λ pages. AreRewritten (F.finds finder.now) tree.entry.root.now (moves_of moves.now)
-        tree.entry.pages.now pages.items) }
+        (moves_of moves.now) tree.entry.pages.now pages.items) }
 {
     let PlannedWork { pages, texts, work } = match planned_work(alloc, tree, moves, rule, finder) {
         Ok(planned) => planned,

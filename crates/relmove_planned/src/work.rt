@@ -63,10 +63,10 @@ pub fn planned_work<F: Finder>(
         (map (λ new. string_bytes new.text) planned.texts.items)) }
     // each link that is read still leads to its file, query and fragment kept, or is left; just pages with a text change
     ensures links { IfOk result (λ planned. KeepTheirLinks (F.finds finder.now) tree.entry.root.now (moves_of moves.now)
-        tree.entry.pages.now planned.pages.items) }
+        (moves_of moves.now) tree.entry.pages.now planned.pages.items) }
     // each page as by `rewrite_links`, but for targets that are given up, at its path after the moves
     ensures rewritten { IfOk result (λ planned. AreRewritten (F.finds finder.now) tree.entry.root.now (moves_of moves.now)
-        tree.entry.pages.now planned.pages.items) }
+        (moves_of moves.now) tree.entry.pages.now planned.pages.items) }
     // a refusal says why there is no such work
     ensures refused { IfErr result (IsNoWork tree.entry.entries.now tree.entry.pages.now (moves_of moves.now) rule) }
     // a page that has a name of a run's own is refused, by the number of the first
@@ -75,7 +75,7 @@ pub fn planned_work<F: Finder>(
     if let Some(page) = first_reserved(tree.pages) {
         return Err(WorkRefusal::ReservedName(page));
     }
-    let plan = make_plan(alloc, tree, moves, rule, finder)?;
+    let plan = make_plan(alloc, tree, moves, None, rule, finder)?;
     let old_texts = texts_by_path(alloc, tree.pages)?;
     let Some((texts, work)) = work_of(alloc, plan.actions, &old_texts)? else {
         return Err(WorkRefusal::LacksText);

@@ -7,9 +7,9 @@ use std::io::{self, Write};
 
 /// The usage of the program.
 pub const USAGE: &str =
-    "usage: relmove [--write] [--json] [--verbose] [--any-name] [--moved] [--quiet-mentions] [--exclude PATH]... [--site-root DIR] ROOT OLD NEW [OLD NEW]...
-       relmove [--write] [--json] [--verbose] [--any-name] [--moved] [--quiet-mentions] [--exclude PATH]... [--site-root DIR] --into DIR ROOT OLD...
-       relmove [--write] [--json] [--verbose] [--any-name] [--moved] [--quiet-mentions] [--exclude PATH]... [--site-root DIR] --moves FILE ROOT
+    "usage: relmove [--write] [--json] [--verbose] [--any-name] [--moved] [--quiet-mentions] [--exclude PATH]... [--site-root DIR] [--pages-as FORM] ROOT OLD NEW [OLD NEW]...
+       relmove [--write] [--json] [--verbose] [--any-name] [--moved] [--quiet-mentions] [--exclude PATH]... [--site-root DIR] [--pages-as FORM] --into DIR ROOT OLD...
+       relmove [--write] [--json] [--verbose] [--any-name] [--moved] [--quiet-mentions] [--exclude PATH]... [--site-root DIR] [--pages-as FORM] --moves FILE ROOT
        relmove --check [--fragments] [--json] [--verbose] [--exclude PATH]... [--site-root DIR] [--pages-as FORM] ROOT
        relmove --resume [--trust-journal [--write]] ROOT
        relmove --undo [--trust-journal [--write]] ROOT
@@ -45,8 +45,8 @@ output says what would be changed.
   --fragments with --check: print a link to a page too whose fragment no heading and no element of HTML has as its name:
               relmove --check --fragments docs
   --pages-as FORM
-              with --check: a link to a.html (html), a/ (dir) or a (bare), where nothing is, leads to the page a.md, since
-              the site shows it so: relmove --check --pages-as html docs
+              a link to a.html (html), a/ (dir) or a (bare), where nothing is, leads to the page a.md, since the site shows
+              it so: relmove --pages-as html docs a.md b.md
   --resume    end a run that stopped: the run goes on, or, if it was going back, it goes back
   --undo      take back a run that stopped before everything was at its new path
   --trust-journal

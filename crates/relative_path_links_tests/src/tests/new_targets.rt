@@ -194,7 +194,14 @@ fn after_move(alloc: Global, new: &str, text: &str) -> Result<Vec<MovedSitePage>
     let moves = TreeMoves::new(alloc, &moves)?;
     let path = NormalPath::of(alloc, RelativePath::new("index.md"))?;
     let page = SitePage { path: &path, text };
-    Ok(rewrite_site(alloc, &[page], &SiteRoot::unknown(), &moves, &Markdown)?)
+    Ok(rewrite_site(
+        alloc,
+        &[page],
+        &SiteRoot::unknown(),
+        &moves,
+        &moves,
+        &Markdown,
+    )?)
 }
 
 // Fails where the page of a case doesn't become what it says, or a target of it isn't read as the new path then.

@@ -473,6 +473,7 @@ fn become_in(
         &vec![in alloc; page; count]?,
         &SiteRoot::unknown(),
         moves,
+        moves,
         &finder,
     )?;
     same(case, pages.len(), count)?;

@@ -67,5 +67,5 @@ pub fn planned<'a>(
         pages: &pages,
         root: &SiteRoot::unknown(),
     };
-    Ok(make_plan(alloc, tree, &pairs, rule, &Markdown))
+    Ok(make_plan(alloc, tree, &pairs, None, rule, &Markdown))
 }

@@ -185,7 +185,7 @@ fn site_moved_in(
     let path = NormalPath::of(alloc, RelativePath::new("a.md"))?;
     let page = SitePage { path: &path, text };
     begin(alloc);
-    let answer = rewrite_site(alloc, &[page], &SiteRoot::unknown(), tree, &Markdown);
+    let answer = rewrite_site(alloc, &[page], &SiteRoot::unknown(), tree, tree, &Markdown);
     end_with_site(alloc, answer, expected)
 }
 
@@ -219,7 +219,14 @@ fn a_site_whose_page_would_read_otherwise(rt: HostRuntime) -> Result<(), Fail> {
 fn a_site_without_pages(rt: HostRuntime) -> Result<(), Fail> {
     let tree = TreeMoves::new(rt.alloc(), &[])?;
     begin(rt.alloc());
-    let answer = rewrite_site(rt.alloc(), &[], &SiteRoot::unknown(), &tree, &Markdown);
+    let answer = rewrite_site(
+        rt.alloc(),
+        &[],
+        &SiteRoot::unknown(),
+        &tree,
+        &tree,
+        &Markdown,
+    );
     end(rt.alloc(), answer.is_err())
 }
 

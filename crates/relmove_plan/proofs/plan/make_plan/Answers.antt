@@ -1,5 +1,6 @@
 -- What is accepted, or refused, of moves that may leave.
 use Rattle.std.proofs.Common.{All, map, string_bytes, subst}
+use Rattle.std.specs.Option.{option_map_or}
 use Rattle.std.proofs.lemmas.List.Elements.{All-map}
 use Rattle.std.proofs.lemmas.Slice.Zip.{AllZip-long}
 use Rattle.relative_path_links.specs.Site.{ForMovedPage, KeepsLinks}
@@ -43,7 +44,8 @@ returns-clause-accepted g c =
 pub actions_of-requires-clause-long : goal.actions_of-requires-clause-long
 actions_of-requires-clause-long g c =
     rw c.deref.ensures.value
-    (AllZip-long (ForMovedPage (KeepsLinks (g.F.Finder.finds c.args.finder.now)) c.args.tree.root.now c.in_ok-table.table)
+    (AllZip-long (ForMovedPage (KeepsLinks (g.F.Finder.finds c.args.finder.now)) c.args.tree.root.now c.in_ok-table.table
+    (option_map_or (λ table. table.now) c.args.links c.in_ok-table.table))
     c.args.tree.pages.now c.in_ok-pages.pages.items c.in_ok-pages.ensures.links)
 
 pub returns-clause-rewritten : goal.returns-clause-rewritten
@@ -92,7 +94,10 @@ planned : (g : _) (c : goal.After-drop-index-2 g) → IsWhole c.args.tree.entrie
 planned g c whole = record {
   whole = whole;
   accepted = (rw c.in_ok-table.ensures.table at c.in_ok-after.ensures.fine) c.args.rule c.in_ok-table.ensures.fine;
-  links = rw c.in_ok-table.ensures.table at c.in_ok-pages.ensures.links;
+  links = (
+    option_map_or (λ table. table.now) c.args.links (moves_of c.args.moves.now),
+    rw c.in_ok-table.ensures.table at c.in_ok-pages.ensures.links,
+  );
   staged = c.in_ok-actions.ensures.staged;
   placed = c.in_ok-actions.ensures.placed;
   once = leave_once g c whole;

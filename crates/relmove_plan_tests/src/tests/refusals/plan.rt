@@ -36,7 +36,7 @@ fn planned<'a>(alloc: Global, text: &str, new: &'a str) -> Result<Result<Plan<'a
     };
     let moves = [(RelativePath::new("d/b.md"), RelativePath::new(new))];
     begin(alloc);
-    let answer = make_plan(alloc, tree, &moves, NameRule::Plain, &Markdown);
+    let answer = make_plan(alloc, tree, &moves, None, NameRule::Plain, &Markdown);
     end(alloc, matches!(&answer, Err(Refusal::OutOfMemory)))?;
     Ok(answer)
 }

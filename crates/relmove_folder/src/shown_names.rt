@@ -1,0 +1,105 @@
+//! The moves of the names under which a site shows its pages.
+use crate::moving_tree::is_index_page;
+use crate::pages_as::{PagesAs, ShownMove};
+use crate::tree::{EntryKind, Tree};
+use relative_path::{RelativePath, RelativePathBuf};
+use relative_path_moves::TreeMoves;
+use std::alloc::{AllocError, Global};
+use std::collections::BTreeSet;
+
+/// The moves of the names under which a site shows the pages that have a move of their own: of `a.html` to `b.html` if `a.md`
+/// moves to `b.md`. There is none for a page if something else is at one of the names, if its extension isn't `md`, or if the
+/// site shows it as its directory, as it does an index page.
+///
+/// Allocates the names, and if there may be one, the new path of each entry.
+pub fn shown_moves(
+    alloc: Global,
+    tree: &Tree,
+    moves: &TreeMoves<'_>,
+    form: PagesAs,
+) -> Result<Vec<ShownMove>, AllocError> {
+    let mut shown = Vec::new(alloc);
+    for a in moves.moves() {
+        let old = a.old.normal().as_relative_path();
+        let new = a.new.normal().as_relative_path();
+        if let Some(old) = name_before(alloc, tree, old, form)?
+            && let Some(new) = name_as(alloc, new, form)?
+        {
+            shown.push((old, new))?;
+        }
+    }
+    if shown.is_empty() {
+        return Ok(Vec::new(alloc));
+    }
+    free_moves(alloc, &paths_after(alloc, tree, moves)?, shown)
+}
+
+// The name under which a site shows the page at a path, if a page is there, and nothing else has the name.
+fn name_before(
+    alloc: Global,
+    tree: &Tree,
+    page: RelativePath<'_>,
+    form: PagesAs,
+) -> Result<Option<RelativePathBuf>, AllocError> {
+    if !matches!(tree.entries.get(page.as_str()), Some(EntryKind::File)) {
+        return Ok(None);
+    }
+    let Some(name) = name_as(alloc, page, form)? else {
+        return Ok(None);
+    };
+    let is_free = !tree.entries.contains_key(name.as_relative_path().as_str());
+    Ok(if is_free { Some(name) } else { None })
+}
+
+// The name under which a site shows a page: `a.html`, or `a` for `a/` too. `None` for what is no page, and for an index page
+// that the site shows as its directory.
+fn name_as(
+    alloc: Global,
+    page: RelativePath<'_>,
+    form: PagesAs,
+) -> Result<Option<RelativePathBuf>, AllocError> {
+    if page.extension() != Some("md") {
+        return Ok(None);
+    }
+    if form == PagesAs::Html {
+        return Ok(Some(page.with_extension(alloc, "html")?));
+    }
+    let is_shown = !is_index_page(page) && !matches!(page.file_stem(), Some(".") | Some(".."));
+    Ok(if is_shown {
+        Some(page.with_extension(alloc, "")?)
+    } else {
+        None
+    })
+}
+
+// The paths of the entries of a tree after moves.
+fn paths_after(
+    alloc: Global,
+    tree: &Tree,
+    moves: &TreeMoves<'_>,
+) -> Result<BTreeSet<String>, AllocError> {
+    let mut after = BTreeSet::new(alloc);
+    for path in tree.entries.keys() {
+        let now = moves.path_after(alloc, RelativePath::new(path.as_str()))?;
+        after.insert(now.into_relative_path_buf().into_string())?;
+    }
+    Ok(after)
+}
+
+// The moves of names to those that nothing else has.
+fn free_moves(
+    alloc: Global,
+    taken: &BTreeSet<String>,
+    names: Vec<(RelativePathBuf, RelativePathBuf)>,
+) -> Result<Vec<ShownMove>, AllocError> {
+    let mut moves = Vec::new(alloc);
+    for (old, new) in names {
+        if !taken.contains(new.as_relative_path().as_str()) {
+            moves.push(ShownMove {
+                old: old.into_string(),
+                new: new.into_string(),
+            })?;
+        }
+    }
+    Ok(moves)
+}
