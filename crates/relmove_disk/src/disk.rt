@@ -15,6 +15,8 @@ enum Deed {
     Removed,
     // It removes what is there, and puts something else there.
     Replaced(Content),
+    // It gives what is there to a user and a group.
+    Given(Owner),
 }
 
 // What another process does, and before which call.
@@ -27,6 +29,9 @@ struct Surprise {
 
 // What a new directory doesn't let its group and others do in any case.
 const USUAL_MASK: u32 = 0o022;
+
+// The most bytes that one call writes at first.
+const MOST_WRITTEN: usize = 9;
 
 /// A disk, and the process that works on it: its user and group, 1000 at first, the number of its calls, and those that
 /// fail. Also the time, in milliseconds, and what was printed on standard error.
@@ -41,10 +46,14 @@ pub struct Disk {
     asked: Cell<u32>,
     // How many bytes all files may have.
     size: Cell<u64>,
+    // The most bytes that one call writes.
+    pub(crate) most_written: Cell<usize>,
     // Whether the process may give a file to another user.
     pub(crate) gives_away: Cell<bool>,
     // Whether each name of a file has an inode of its own.
     pub(crate) has_inode_for_each_path: Cell<bool>,
+    // Whether everything has the same inode.
+    pub(crate) has_one_inode: Cell<bool>,
     // Why a file can't have a second name, if it can't.
     pub(crate) no_hard_links: Cell<Option<ErrorKind>>,
     // Why a directory can't be synced, if it can't.
@@ -70,8 +79,10 @@ impl Disk {
             asked_for: RefCell::new(String::new(alloc)),
             asked: Cell::new(0),
             size: Cell::new(u64::MAX),
+            most_written: Cell::new(MOST_WRITTEN),
             gives_away: Cell::new(false),
             has_inode_for_each_path: Cell::new(false),
+            has_one_inode: Cell::new(false),
             no_hard_links: Cell::new(None),
             no_syncs: Cell::new(None),
             mask: Cell::new(0),
@@ -117,6 +128,11 @@ impl Disk {
     /// Puts something else at a path, before the call of this number. What is there is removed, with all below it.
     pub fn replace_before(&self, number: u32, path: &str, content: Content) -> io::Result<()> {
         self.surprise_before(number, path, Deed::Replaced(content))
+    }
+
+    /// Gives what is at a path to a user and a group, as [`Disk::set_owner`] does, before the call of this number.
+    pub fn give_before(&self, number: u32, path: &str, user: u32, group: u32) -> io::Result<()> {
+        self.surprise_before(number, path, Deed::Given(Owner { user, group }))
     }
 
     // Notes what another process does before the call of this number.
@@ -202,6 +218,11 @@ impl Disk {
         self.has_inode_for_each_path.set(true);
     }
 
+    /// From now on everything has the same inode.
+    pub fn set_one_inode(&self) {
+        self.has_one_inode.set(true);
+    }
+
     /// From now on the process can't give a file a second name: that fails with this error.
     pub fn refuse_hard_links(&self, why: ErrorKind) {
         self.no_hard_links.set(Some(why));
@@ -233,6 +254,11 @@ impl Disk {
         let length = self.nodes.try_borrow()?.length();
         self.size.set(length.saturating_add(bytes));
         Ok(())
+    }
+
+    /// From now on one call writes at most so many bytes, or one byte.
+    pub fn set_most_written(&self, bytes: usize) {
+        self.most_written.set(bytes);
     }
 
     /// Counts calls anew. From now on the call of this number fails; none does if the number is 0.
@@ -396,13 +422,18 @@ impl Disk {
                 self.remove(path)?;
                 self.add(path, content)
             }
+            Deed::Given(Owner { user, group }) => self.set_owner(path, user, group),
         }
     }
 
     // Fails unless so many more bytes have room.
     pub(crate) fn need_room(&self, bytes: u64) -> io::Result<()> {
+        let size = self.size.get();
+        if size == u64::MAX {
+            return Ok(());
+        }
         let length = self.nodes.try_borrow()?.length();
-        if length.saturating_add(bytes) > self.size.get() {
+        if length.saturating_add(bytes) > size {
             return Err(io::Error::from(ErrorKind::StorageFull));
         }
         Ok(())

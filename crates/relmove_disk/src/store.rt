@@ -12,9 +12,6 @@ use std::time::{Duration, SystemTime};
 // More bytes than a path has.
 const LONGEST_PATH: u64 = 4096;
 
-// The most bytes that one call writes.
-const MOST_WRITTEN: usize = 9;
-
 // What the owner of a directory may do there.
 const OWNER_PERMISSIONS: u32 = 0o700;
 
@@ -96,6 +93,9 @@ impl<'a> DiskStore<'a> {
 
     // The inode of a node under a name.
     fn inode_of(&self, number: usize, path: &str) -> u64 {
+        if self.disk.has_one_inode.get() {
+            return 1;
+        }
         let inode = (number as u64).saturating_add(1);
         if self.disk.has_inode_for_each_path.get() {
             return inode
@@ -253,7 +253,7 @@ impl Store for DiskStore<'_> {
     }
 
     fn write(&mut self, file: &mut NewDiskFile, bytes: &[u8]) -> io::Result<()> {
-        for part in bytes.chunks(MOST_WRITTEN) {
+        for part in bytes.chunks(self.disk.most_written.get().max(1)) {
             let turn = self.disk.turn()?;
             self.disk.append(file.0, part)?;
             turn.end()?;

@@ -4,7 +4,9 @@ use crate::scene::{Flow, NOTHING, Scene};
 use crate::work::stage_of;
 use relmove_disk::{Content, Disk, Failing, below_site};
 use relmove_run::{Journal, journal_of};
-use relmove_statements::{Fault, bytes_of, number_of, text_of, two_of, word_of, words_of};
+use relmove_statements::{
+    Fault, bytes_of, number_of, owner_of, text_of, two_of, word_of, words_of,
+};
 use std::alloc::Global;
 
 /// The journal's path.
@@ -83,6 +85,12 @@ fn surprise(alloc: Global, disk: &Disk, number: u32, deed: &str) -> Result<(), F
         let (name, words) = two_of(words)?;
         let (path, content) = thing_of(alloc, name, words)?;
         return Ok(disk.replace_before(number, path.as_str(), content)?);
+    }
+    if name == "owner" {
+        let (word, owner) = two_of(words)?;
+        let path = full_path(alloc, word)?;
+        let (user, group) = owner_of(owner)?;
+        return Ok(disk.give_before(number, path.as_str(), user, group)?);
     }
     let (path, content) = thing_of(alloc, name, words)?;
     Ok(disk.add_before(number, path.as_str(), content)?)

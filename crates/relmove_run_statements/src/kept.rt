@@ -2,10 +2,10 @@
 use crate::call::end;
 use crate::case::{path_among, text_among};
 use crate::outcome::{End, Outcome};
-use crate::scene::{Flow, Scene, disk_with};
+use crate::scene::{Flow, Scene, listing_of};
 use relmove_disk::{Failing, below_site};
 use relmove_run::{Direction, Trust};
-use relmove_statements::{Failure, Fault, Line, at, need_disk, need_listing};
+use relmove_statements::{Failure, Fault, Line, at, need_listing};
 
 /// Whether the last call, and what ends the run after it, lose nothing.
 pub fn survives(scene: &mut Scene<'_>, line: Line<'_>) -> Result<Flow, Failure> {
@@ -175,18 +175,23 @@ fn need_refused(scene: &Scene<'_>, line: Line<'_>) -> Result<(), Failure> {
 
 /// Fails unless the disk has the tree before the moves.
 pub fn need_before(scene: &Scene<'_>, line: Line<'_>) -> Result<(), Failure> {
-    need_tree(scene, line, &scene.case.before)
+    need_listed(scene, line, scene.listing_before.as_str())
 }
 
 /// Fails unless the disk has the tree after the moves.
 pub fn need_after(scene: &Scene<'_>, line: Line<'_>) -> Result<(), Failure> {
-    need_tree(scene, line, &scene.case.after)
+    need_listed(scene, line, scene.listing_after.as_str())
 }
 
 /// Fails unless the disk has the tree that lines say.
 pub fn need_tree(scene: &Scene<'_>, line: Line<'_>, tree: &[Line<'_>]) -> Result<(), Failure> {
-    let expected = disk_with(scene.alloc, tree)?;
-    at(line, need_disk(scene.alloc, &scene.disk, &expected))
+    let expected = listing_of(scene.alloc, tree)?;
+    need_listed(scene, line, expected.as_str())
+}
+
+// Fails unless exactly this is on the disk.
+fn need_listed(scene: &Scene<'_>, line: Line<'_>, expected: &str) -> Result<(), Failure> {
+    at(line, need_listing(scene.alloc, &scene.disk, expected))
 }
 
 // Fails unless the tree is as before the moves or as after them.

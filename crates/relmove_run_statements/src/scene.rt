@@ -48,6 +48,9 @@ pub const NOTHING: Armed = Armed {
 pub struct Scene<'a> {
     pub alloc: Global,
     pub case: Case<'a>,
+    /// All that is on the disk before the moves of the case, and after them, once the disk was made anew.
+    pub listing_before: String,
+    pub listing_after: String,
     pub disk: Disk,
     pub root: String,
     pub sweep: Sweep,
@@ -75,6 +78,8 @@ impl<'a> Scene<'a> {
         Ok(Scene {
             alloc,
             case,
+            listing_before: String::new(alloc),
+            listing_after: String::new(alloc),
             disk: empty_disk(alloc)?,
             root: String::from_str(alloc, "site")?,
             sweep: Sweep::new(alloc),
@@ -103,6 +108,10 @@ impl<'a> Scene<'a> {
         self.armed = NOTHING;
         self.last = None;
         self.disk = disk_with(self.alloc, &self.case.before)?;
+        if self.listing_before.is_empty() {
+            self.listing_before = listing_of(self.alloc, &self.case.before)?;
+            self.listing_after = listing_of(self.alloc, &self.case.after)?;
+        }
         Ok(())
     }
 
@@ -121,18 +130,30 @@ impl<'a> Scene<'a> {
     }
 }
 
-/// A disk with the tree that lines say.
-pub fn disk_with(alloc: Global, lines: &[Line<'_>]) -> Result<Disk, Failure> {
+/// All that is on a disk with the tree that lines say.
+pub fn listing_of(alloc: Global, lines: &[Line<'_>]) -> Result<String, Failure> {
+    let disk = disk_with(alloc, lines)?;
+    match disk.listing() {
+        Ok(listing) => Ok(listing),
+        Err(error) => nowhere(Fault::System(error)),
+    }
+}
+
+// A disk with the tree that lines say.
+fn disk_with(alloc: Global, lines: &[Line<'_>]) -> Result<Disk, Failure> {
     let disk = match empty_disk(alloc) {
         Ok(disk) => disk,
-        Err(fault) => {
-            return Err(Failure {
-                number: 0,
-                fault,
-                when: None,
-            });
-        }
+        Err(fault) => return nowhere(fault),
     };
     set_up(alloc, &disk, lines)?;
     Ok(disk)
+}
+
+// Fails at no line.
+fn nowhere<T>(fault: Fault) -> Result<T, Failure> {
+    Err(Failure {
+        number: 0,
+        fault,
+        when: None,
+    })
 }

@@ -5,7 +5,7 @@ use crate::scene::{Flow, Scene};
 use crate::work::{stage_of, work_of};
 use relmove_disk::{Content, Disk, file_of};
 use relmove_run::{Journal, Origin, Stage, Work, journal_text};
-use relmove_statements::{Definition, Fault, lines_named, number_of, two_of, word_of};
+use relmove_statements::{Definition, Fault, lines_named, number_of, owner_of, two_of, word_of};
 use std::io::ErrorKind;
 
 /// Does what a statement says of the disk that no call changes. Returns whether it has a meaning.
@@ -17,6 +17,7 @@ pub fn set(scene: &mut Scene<'_>, name: &str, words: &str) -> Result<bool, Fault
         "device" => set_device(scene, words)?,
         "mask" => set_mask(scene, words)?,
         "user" => set_user(scene, words)?,
+        "parts" => set_parts(scene, words)?,
         "room" => leave_room(scene, words)?,
         "measure" => measure(scene, words)?,
         _ => return set_kind(scene, name, words),
@@ -30,6 +31,7 @@ fn set_kind(scene: &mut Scene<'_>, name: &str, words: &str) -> Result<bool, Faul
         "no-hard-links" => refuse_hard_links(scene, words)?,
         "no-syncs" => refuse_syncs(scene, words)?,
         "inode-for-each-path" => scene.disk.set_inode_for_each_path(),
+        "one-inode" => scene.disk.set_one_inode(),
         "giving" => scene.disk.allow_giving(true),
         "locked" => scene.disk.set_locked(true),
         "ask-for" => ask_for(scene, words)?,
@@ -88,8 +90,14 @@ fn set_mask(scene: &mut Scene<'_>, words: &str) -> Result<(), Fault> {
 
 // From now on the process is one of another user.
 fn set_user(scene: &Scene<'_>, words: &str) -> Result<(), Fault> {
-    let (user, group) = two_of(words)?;
-    Ok(scene.disk.set_user(number_of(user)?, number_of(group)?)?)
+    let (user, group) = owner_of(words)?;
+    Ok(scene.disk.set_user(user, group)?)
+}
+
+// From now on each call writes at most so many bytes.
+fn set_parts(scene: &Scene<'_>, digits: &str) -> Result<(), Fault> {
+    scene.disk.set_most_written(number_of(digits)? as usize);
+    Ok(())
 }
 
 // Leaves room for so many bytes, beside those that were measured.

@@ -18,7 +18,9 @@ pub use self::line::{Line, cut, lines_from};
 pub use self::report::run_input;
 pub use self::script::{Definition, Runner, lines_named};
 pub use self::text::{bytes_of, line_of, need_nothing, text_of, two_of, word_of, words_of};
-pub use self::tree::{change, empty_disk, need_disk, need_listing, number_of, path_of, set_up};
+pub use self::tree::{
+    change, empty_disk, need_disk, need_listing, number_of, owner_of, path_of, set_up,
+};
 
 mod difference;
 mod fault;

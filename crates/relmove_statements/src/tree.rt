@@ -90,8 +90,8 @@ fn set_owner(alloc: Global, disk: &Disk, words: &str) -> Result<(), Fault> {
     Ok(disk.set_owner(path.as_str(), user, group)?)
 }
 
-// The numbers of a user and a group.
-fn owner_of(words: &str) -> Result<(u32, u32), Fault> {
+/// The numbers of a user and a group.
+pub fn owner_of(words: &str) -> Result<(u32, u32), Fault> {
     let (user, group) = two_of(words)?;
     Ok((number_of(user)?, number_of(group)?))
 }
