@@ -2,9 +2,11 @@
 use crate::calls::{Calls, Failing, Turn};
 use crate::node::{Content, Owner};
 use crate::nodes::Nodes;
+use relmove_store::is_absence;
 use std::alloc::{AllocError, Global};
 use std::cell::{Cell, RefCell};
 use std::io::{self, ErrorKind};
+use std::mem;
 
 // What another process does at a path.
 #[derive(Drop)]
@@ -33,8 +35,8 @@ const USUAL_MASK: u32 = 0o022;
 // The most bytes that one call writes at first.
 const MOST_WRITTEN: usize = 9;
 
-/// A disk, and the process that works on it: its user and group, 1000 at first, the number of its calls, and those that
-/// fail. Also the time, in milliseconds, and what was printed on standard error.
+/// A disk, and the process that works on it: its user and group, 1000 at first, the number of its calls, those that fail, its
+/// clock, and its standard error.
 #[derive(Drop)]
 pub struct Disk {
     pub(crate) alloc: Global,
@@ -62,7 +64,10 @@ pub struct Disk {
     mask: Cell<u32>,
     // Whether a process has the lock of a directory.
     pub(crate) is_locked: Cell<bool>,
-    pub(crate) time: Cell<u64>,
+    // What the clock shows, and by how much it goes on each time it is read, in milliseconds.
+    time: Cell<u64>,
+    interval: Cell<u64>,
+    // What was printed on standard error.
     pub(crate) printed: RefCell<Vec<u8>>,
 }
 
@@ -88,6 +93,7 @@ impl Disk {
             mask: Cell::new(0),
             is_locked: Cell::new(false),
             time: Cell::new(0),
+            interval: Cell::new(0),
             printed: RefCell::new(Vec::new(alloc)),
         })
     }
@@ -321,9 +327,22 @@ impl Disk {
         self.nodes.try_borrow_mut()?.lose_power_and_keep_names(kept)
     }
 
-    /// Whether exactly this was printed on standard error.
-    pub fn has_printed(&self, text: &str) -> io::Result<bool> {
-        Ok(self.printed.try_borrow()?.as_slice() == text.as_bytes())
+    /// From now on the clock goes on by so many milliseconds each time it is read.
+    pub fn set_clock(&self, interval: u64) {
+        self.interval.set(interval);
+    }
+
+    // Reads the clock, in milliseconds.
+    pub(crate) fn read_clock(&self) -> u64 {
+        let time = self.time.get().saturating_add(self.interval.get());
+        self.time.set(time);
+        time
+    }
+
+    /// Takes what was printed on standard error.
+    pub fn take_printed(&self) -> io::Result<Vec<u8>> {
+        let mut printed = self.printed.try_borrow_mut()?;
+        Ok(mem::replace(&mut *printed, Vec::new(self.alloc)))
     }
 
     /// All that is there, sorted, a line each.
@@ -413,8 +432,16 @@ impl Disk {
         turn
     }
 
-    // Does what another process does at a path.
+    // Does what another process does at a path. Where there is no directory for it, that does nothing.
     fn happen(&self, path: &str, deed: Deed) -> io::Result<()> {
+        match self.do_deed(path, deed) {
+            Err(error) if is_absence(error.kind()) => Ok(()),
+            done => done,
+        }
+    }
+
+    // Does what another process does at a path.
+    fn do_deed(&self, path: &str, deed: Deed) -> io::Result<()> {
         match deed {
             Deed::Put(content) => self.add(path, content),
             Deed::Removed => self.remove(path),

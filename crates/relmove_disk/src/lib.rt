@@ -14,7 +14,7 @@
 
 pub use self::calls::Failing;
 pub use self::disk::Disk;
-pub use self::machine::DiskMachine;
+pub use self::machine::{DiskErrors, DiskMachine};
 pub use self::node::Content;
 pub use self::site::{Place, below_site, disk_of, file_of};
 pub use self::store::{DiskStore, NewDiskFile};

@@ -17,12 +17,9 @@ impl Alloc for DiskMachine<'_> {
     }
 }
 
-// Each time the clock is read, 200 milliseconds have passed.
 impl Clock for DiskMachine<'_> {
     fn monotonic(&self) -> io::Result<Duration> {
-        let time = self.0.time.get().saturating_add(200);
-        self.0.time.set(time);
-        Ok(Duration::from_millis(time))
+        Ok(Duration::from_millis(self.0.read_clock()))
     }
 
     fn since_1970(&self) -> io::Result<Duration> {
@@ -37,5 +34,20 @@ impl Eprint for DiskMachine<'_> {
 
     fn eprintln<D: Display + Drop>(&self, value: D) -> io::Result<()> {
         writeln!(self.0.printed.try_borrow_mut()?, "{value}")
+    }
+}
+
+/// The standard error of a runtime with this disk.
+#[derive(Clone, Copy)]
+pub struct DiskErrors<'a>(pub &'a Disk);
+
+impl Write for DiskErrors<'_> {
+    fn write(&mut self, buf: &[u8]) -> io::Result<usize> {
+        self.0.printed.try_borrow_mut()?.extend_from_slice(buf)?;
+        Ok(buf.len())
+    }
+
+    fn flush(&mut self) -> io::Result<()> {
+        Ok(())
     }
 }

@@ -3,6 +3,7 @@ use crate::pages_as::ShownMove;
 use crate::tree::{EntryKind, Tree, is_directory_entry};
 use relative_path::RelativePath;
 use relative_path_moves::{Move, TreeMoves};
+use relmove_mentions::INDEX_NAMES;
 use std::alloc::{AllocError, Global};
 use std::collections::BTreeMap;
 
@@ -72,17 +73,6 @@ impl MovingTree<'_, '_> {
     /// The path by which a file is named. Allocates it.
     pub fn shown_path(&self, alloc: Global, path: &str) -> Result<String, AllocError> {
         shown_path(alloc, self.moves, self.made, path)
-    }
-}
-
-// The names of a page for which its directory can stand.
-const INDEX_NAMES: [&str; 3] = ["README.md", "index.md", "_index.md"];
-
-/// Whether a path is that of a page for which its directory can stand. Allocates nothing.
-pub fn is_index_page(path: RelativePath<'_>) -> bool {
-    match path.file_name() {
-        Some(name) => INDEX_NAMES.iter().any(|other| *other == name),
-        None => false,
     }
 }
 

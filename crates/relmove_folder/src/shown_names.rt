@@ -1,9 +1,9 @@
 //! The moves of the names under which a site shows its pages.
-use crate::moving_tree::is_index_page;
 use crate::pages_as::{PagesAs, ShownMove};
 use crate::tree::{EntryKind, Tree};
 use relative_path::{RelativePath, RelativePathBuf};
 use relative_path_moves::TreeMoves;
+use relmove_mentions::is_index_page;
 use std::alloc::{AllocError, Global};
 use std::collections::BTreeSet;
 

@@ -16,7 +16,7 @@
 
 pub use self::file_text::FileText;
 pub use self::mentions::Mention;
-pub use self::old_names::{OldNames, is_page};
+pub use self::old_names::{INDEX_NAMES, OldNames, is_index_page, is_page};
 pub use self::text_span::{TextSpan, are_spans_in_order};
 
 mod bases;

@@ -361,8 +361,17 @@ fn has_bare_name(path: RelativePath<'_>) -> bool
     }
 }
 
-// Returns whether the directory of a file can stand for it.
-fn is_index_page(path: RelativePath<'_>) -> bool
+/// The names of a page for which its directory can stand.
+pub const INDEX_NAMES: [&str; 3] = ["README.md", "index.md", "_index.md"];
+
+/// Returns whether a path is that of a page for which its directory can stand: whether its name is one of [`INDEX_NAMES`].
+/// Allocates nothing.
+///
+/// ```
+/// assert!(rt; is_index_page(RelativePath::new("docs/index.md")));
+/// assert!(rt; !is_index_page(RelativePath::new("docs/Index.md")));
+/// ```
+pub fn is_index_page(path: RelativePath<'_>) -> bool
     ensures { result ≡ is_index_page (file_name_of (path_text path.entry)) }
 {
     match path.file_name() {

@@ -67,7 +67,8 @@ pub fn make_plan<'a, F: Finder>(
 ) -> Result<Plan<'a>, Refusal>
     // the table is of these moves
     ensures table { IfOk result (λ plan. plan.moves ≡ moves_of moves.now) }
-    // each link that is read still leads to its file, query and fragment kept, or is left; just pages with a text change
+    // each link that is read still leads to its file by the table of links, query and fragment kept, or is left; just
+    // pages with a text change
     ensures links { IfOk result (λ plan. KeepTheirLinks (F.finds finder.now) tree.entry.root.now (moves_of moves.now)
         (option_map_or (λ table. table.now) links.entry (moves_of moves.now)) tree.entry.pages.now plan.pages.items) }
     // each page as by `rewrite_links`, but for targets that are given up, at its path after the moves

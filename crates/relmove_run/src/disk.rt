@@ -161,9 +161,15 @@ fn rename<S: Store>(
     }
 }
 
-// Whether two paths are names of one file. A loss of power can keep both names of a file that was renamed.
+// Whether two paths are names of one file. A loss of power can keep both names of a file that was renamed. Where everything
+// has the same inode, what else the system says of two files is compared too.
 pub(crate) fn are_names_of_one_file(one: &Found, other: &Found) -> bool {
-    one.is_same(other) && one.names > 1 && one.kind != FoundKind::Directory
+    one.is_same(other)
+        && one.kind != FoundKind::Directory
+        && one.names > 1
+        && one.names == other.names
+        && one.length == other.length
+        && one.made == other.made
 }
 
 // Removes a path, if it is a name of the file that was found at another path.

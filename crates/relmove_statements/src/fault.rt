@@ -70,6 +70,16 @@ pub fn at<T>(line: Line<'_>, outcome: Result<T, Fault>) -> Result<T, Failure> {
     }
 }
 
+/// Says in a failure when it comes.
+pub fn add_when(failure: Failure, when: Option<String>) -> Failure {
+    let Failure { number, fault, .. } = failure;
+    Failure {
+        number,
+        fault,
+        when,
+    }
+}
+
 /// Fails at a line that isn't written as the language asks for.
 pub fn wrong<T>(line: Line<'_>, why: &'static str) -> Result<T, Failure> {
     Err(Failure {

@@ -50,8 +50,8 @@ pub fn lines_from<'l, 'a: 'l>(
     rest.get(..end).unwrap_or(rest)
 }
 
-// Whether a name is one of these.
-fn is_among(name: &str, names: &[&str]) -> bool {
+/// Whether a name is one of these.
+pub fn is_among(name: &str, names: &[&str]) -> bool {
     names.iter().any(|other| *other == name)
 }
 

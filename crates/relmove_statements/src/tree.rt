@@ -2,7 +2,7 @@
 use crate::difference::need_same_tree;
 use crate::fault::{Failure, Fault, at};
 use crate::line::Line;
-use crate::text::{bytes_of, need_nothing, two_of, word_of};
+use crate::text::{bytes_of, need_nothing, text_of, two_of, word_of};
 use relmove_disk::{Content, Disk, below_site, disk_of};
 use std::alloc::Global;
 
@@ -41,6 +41,47 @@ fn set(alloc: Global, disk: &Disk, name: &str, rest: &str) -> Result<(), Fault> 
 pub fn path_of(alloc: Global, word: &str) -> Result<String, Fault> {
     let path = word_of(alloc, word)?;
     Ok(below_site(alloc, path.as_str())?)
+}
+
+/// Begins to count how often a disk is asked what is at a path.
+pub fn count_questions(alloc: Global, disk: &Disk, word: &str) -> Result<(), Fault> {
+    // The disk is asked for a path outside the root without the root's.
+    let path = match word.strip_prefix("../") {
+        Some(outside) => word_of(alloc, outside)?,
+        None => path_of(alloc, word)?,
+    };
+    Ok(disk.count_questions(path.as_str())?)
+}
+
+/// Whether a file with this text is at a path.
+pub fn has_text(alloc: Global, disk: &Disk, word: &str, text: &str) -> Result<bool, Fault> {
+    let path = path_of(alloc, word)?;
+    let text = text_of(alloc, text)?;
+    Ok(disk.is_file(path.as_str(), text.as_str())?)
+}
+
+/// Whether something is at a path, or a file with a text: `PATH`, or `PATH TEXT`.
+pub fn has(alloc: Global, disk: &Disk, words: &str) -> Result<bool, Fault> {
+    match words.split_once(' ') {
+        Some((word, text)) => has_text(alloc, disk, word, text),
+        None => Ok(disk.has(path_of(alloc, words)?.as_str())?),
+    }
+}
+
+/// Fails unless something is at a path, or a file with a text.
+pub fn need_there(alloc: Global, disk: &Disk, words: &str) -> Result<(), Fault> {
+    if has(alloc, disk, words)? {
+        return Ok(());
+    }
+    Err(Fault::Wrong("this isn't there"))
+}
+
+/// Fails if something is at a path, or a file with a text.
+pub fn need_absent(alloc: Global, disk: &Disk, words: &str) -> Result<(), Fault> {
+    if has(alloc, disk, words)? {
+        return Err(Fault::Wrong("this is there"));
+    }
+    Ok(())
 }
 
 // Puts something at a path.
@@ -84,10 +125,14 @@ fn set_mode(alloc: Global, disk: &Disk, words: &str) -> Result<(), Fault> {
 
 // Gives what is at a path to a user and a group.
 fn set_owner(alloc: Global, disk: &Disk, words: &str) -> Result<(), Fault> {
-    let (word, owner) = two_of(words)?;
-    let path = path_of(alloc, word)?;
-    let (user, group) = owner_of(owner)?;
+    let (path, (user, group)) = path_and_owner(alloc, words)?;
     Ok(disk.set_owner(path.as_str(), user, group)?)
+}
+
+/// A path, and the user and the group that get it.
+pub fn path_and_owner(alloc: Global, words: &str) -> Result<(String, (u32, u32)), Fault> {
+    let (word, owner) = two_of(words)?;
+    Ok((path_of(alloc, word)?, owner_of(owner)?))
 }
 
 /// The numbers of a user and a group.

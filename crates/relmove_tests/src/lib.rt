@@ -1,5 +1,5 @@
-//! The tests of `relmove_lib` that aren't scripts, and those of it and of crates below it in which memory runs out, in a crate
-//! of their own: so the gate proves its functions once. The scripts are in `relmove_scripts`.
+//! The tests of crates below `relmove_lib` in which memory runs out. They have a crate of their own, so that the gate proves the
+//! functions of those crates once. What a call of the program does is in the scripts of `relmove_scripts`.
 #![tactic(auto)]
 
 #[cfg(test)]

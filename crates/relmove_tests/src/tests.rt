@@ -1,13 +1,14 @@
-//! Tests of what no contract says, over a file system in memory: calls of the program in which each call of the file system
-//! fails in turn, or another program changes files, what its parts return, and what they do if memory runs out.
+//! Tests of what no contract says: what calls do if memory runs out.
+use std::fmt::Debug;
+use std::test::Fail;
 
-mod cases;
-mod comparison;
-mod ends;
-mod json;
-mod move_lists;
-mod moving;
-mod outputs;
-mod progress;
-mod reading;
 mod refusals;
+
+// Fails in the words of this case if the value that was found isn't the one that is expected.
+fn same<T: PartialEq + Debug>(case: &str, found: &T, expected: &T) -> Result<(), Fail> {
+    if found == expected {
+        Ok(())
+    } else {
+        Err(Fail::new(format_args!("{case:?}: {found:?}, not {expected:?}")))
+    }
+}

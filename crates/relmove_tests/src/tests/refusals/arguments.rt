@@ -1,7 +1,7 @@
 //! What the arguments of a call mean.
 use super::marks::{begin, end};
-use crate::tests::comparison::same;
-use relmove_lib::{Task, WrongCall, task_of};
+use crate::tests::same;
+use relmove_arguments::{Task, WrongCall, task_of};
 use std::alloc::Global;
 use std::test::Fail;
 

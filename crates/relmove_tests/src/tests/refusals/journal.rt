@@ -1,6 +1,6 @@
 //! The text of a journal, and its reading.
 use super::marks::{begin, end};
-use crate::tests::comparison::same;
+use crate::tests::same;
 use relmove_actions::Rename;
 use relmove_journal::{
     JournalError, Leftover, Origin, Stage, TextDigest, TextFile, Work, is_of_run, journal_of,

@@ -1,7 +1,7 @@
 //! What is at a path of a tree.
 use super::marks::{begin, end};
-use crate::tests::comparison::same;
-use relmove_lib::{EntryKind, Tree, is_directory};
+use crate::tests::same;
+use relmove_folder::{EntryKind, Tree, is_directory};
 use std::alloc::{AllocError, Global};
 use std::collections::BTreeMap;
 use std::test::Fail;

@@ -1,7 +1,7 @@
 //! A dead link as an object of JSON.
 use super::marks::{begin, end};
-use relmove_lib::report::print_dead_link_as_json;
-use relmove_lib::{DeadLink, Position, WhyDead};
+use relmove_folder::{DeadLink, Position, WhyDead};
+use relmove_report::report::print_dead_link_as_json;
 use std::io;
 use std::test::Fail;
 

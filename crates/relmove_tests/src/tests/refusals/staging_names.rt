@@ -1,6 +1,6 @@
 //! The paths that a run has for those of a plan, and its work.
 use super::marks::{begin, end};
-use crate::tests::comparison::same;
+use crate::tests::same;
 use relmove_actions::{Actions, NewText, Rename};
 use relmove_journal::{Leftover, TextDigest, TextFile, Work};
 use relmove_work::{staging_path, text_path, work_of};

@@ -2,8 +2,8 @@
 use crate::case::Case;
 use crate::outcome::Outcome;
 use crate::sweep::Sweep;
-use relmove_disk::{Disk, Failing, below_site};
-use relmove_statements::{Failure, Fault, Line, empty_disk, set_up, word_of};
+use relmove_disk::{Disk, Failing};
+use relmove_statements::{Failure, Fault, Line, empty_disk, path_of, set_up};
 use std::alloc::Global;
 
 /// Whether a script goes on after a statement.
@@ -117,8 +117,7 @@ impl<'a> Scene<'a> {
 
     /// A path from the top of the disk.
     pub fn path(&self, word: &str) -> Result<String, Fault> {
-        let path = word_of(self.alloc, word)?;
-        Ok(below_site(self.alloc, path.as_str())?)
+        path_of(self.alloc, word)
     }
 
     /// How the last call ended.

@@ -1,9 +1,9 @@
 //! Statements that say what a call did.
-use crate::faults::{has_text, journal_on};
+use crate::faults::journal_on;
 use crate::outcome::End;
 use crate::scene::{Flow, Scene};
 use relmove_disk::DiskStore;
-use relmove_statements::{Fault, Line, need_listing, need_same, number_of, text_of, two_of};
+use relmove_statements::{Fault, Line, has, need_listing, need_same, number_of, text_of, two_of};
 use std::alloc::Global;
 
 /// Fails unless the last call ended so, with the remarks and the answers that the lines below say.
@@ -86,7 +86,7 @@ pub fn need_never(scene: &Scene<'_>, words: &str) -> Result<Flow, Fault> {
 // Whether something is so.
 fn is_true(scene: &Scene<'_>, words: &str) -> Result<bool, Fault> {
     if let Some(words) = words.strip_prefix("has ") {
-        return has(scene, words);
+        return has(scene.alloc, &scene.disk, words);
     }
     if let Some(reason) = words.strip_prefix("because ") {
         return Ok(scene.last()?.words.as_str().ends_with(reason));
@@ -104,30 +104,6 @@ fn ends_so(found: &str, words: &str) -> bool {
         Some(rest) => rest.is_empty() || rest.starts_with(':') || rest.starts_with(' '),
         None => false,
     }
-}
-
-// Whether something is at a path, or a file with a text.
-fn has(scene: &Scene<'_>, words: &str) -> Result<bool, Fault> {
-    match words.split_once(' ') {
-        Some((path, text)) => has_text(scene, path, text),
-        None => Ok(scene.disk.has(scene.path(words)?.as_str())?),
-    }
-}
-
-/// Fails unless something is at a path, or a file with a text.
-pub fn need_there(scene: &Scene<'_>, words: &str) -> Result<Flow, Fault> {
-    if has(scene, words)? {
-        return Ok(Flow::On);
-    }
-    Err(Fault::Wrong("this isn't there"))
-}
-
-/// Fails if something is at a path.
-pub fn need_absent(scene: &Scene<'_>, words: &str) -> Result<Flow, Fault> {
-    if has(scene, words)? {
-        return Err(Fault::Wrong("this is there"));
-    }
-    Ok(Flow::On)
 }
 
 /// Fails unless what is on the disk is what was there before the last call.

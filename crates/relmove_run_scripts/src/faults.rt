@@ -2,11 +2,9 @@
 use crate::outcome::End;
 use crate::scene::{Flow, NOTHING, Scene};
 use crate::work::stage_of;
-use relmove_disk::{Content, Disk, Failing, below_site};
+use relmove_disk::Failing;
 use relmove_run::{Journal, journal_of};
-use relmove_statements::{
-    Fault, bytes_of, number_of, owner_of, text_of, two_of, word_of, words_of,
-};
+use relmove_statements::{Fault, failing_of, has_text, number_of, surprise, two_of, words_of};
 use std::alloc::Global;
 
 /// The journal's path.
@@ -14,19 +12,6 @@ pub const JOURNAL: &str = "site/.relmove";
 
 // What the lines of files begin with that are written anew.
 const WRITTEN: [&str; 2] = ["site/.relmove-journal ", "site/.relmove-spare "];
-
-// The way of failing of a name.
-fn failing_of(name: &str) -> Result<Failing, Fault> {
-    match name {
-        "refused" => Ok(Failing::Refused),
-        "out-of-memory" => Ok(Failing::OutOfMemory),
-        "done-and-failed" => Ok(Failing::DoneAndFailed),
-        "killed" => Ok(Failing::Killed),
-        "done-and-killed" => Ok(Failing::DoneAndKilled),
-        "not-there" => Ok(Failing::NotThere),
-        _ => Err(Fault::Wrong("no call fails so")),
-    }
-}
 
 /// One of the words, each in its turn.
 pub fn choose_word(scene: &mut Scene<'_>, words: &str) -> Result<String, Fault> {
@@ -72,46 +57,6 @@ pub fn before(scene: &mut Scene<'_>, words: &str) -> Result<Flow, Fault> {
         surprise(scene.alloc, &scene.disk, number, deed)?;
     }
     Ok(Flow::On)
-}
-
-// Notes what another program does before a call.
-fn surprise(alloc: Global, disk: &Disk, number: u32, deed: &str) -> Result<(), Fault> {
-    let (name, words) = two_of(deed)?;
-    if name == "remove" {
-        let path = full_path(alloc, words)?;
-        return Ok(disk.remove_before(number, path.as_str())?);
-    }
-    if name == "other" {
-        let (name, words) = two_of(words)?;
-        let (path, content) = thing_of(alloc, name, words)?;
-        return Ok(disk.replace_before(number, path.as_str(), content)?);
-    }
-    if name == "owner" {
-        let (word, owner) = two_of(words)?;
-        let path = full_path(alloc, word)?;
-        let (user, group) = owner_of(owner)?;
-        return Ok(disk.give_before(number, path.as_str(), user, group)?);
-    }
-    let (path, content) = thing_of(alloc, name, words)?;
-    Ok(disk.add_before(number, path.as_str(), content)?)
-}
-
-// A path from the top of the disk.
-fn full_path(alloc: Global, word: &str) -> Result<String, Fault> {
-    let path = word_of(alloc, word)?;
-    Ok(below_site(alloc, path.as_str())?)
-}
-
-// What comes to a path.
-fn thing_of(alloc: Global, name: &str, words: &str) -> Result<(String, Content), Fault> {
-    let (path, rest) = words.split_once(' ').unwrap_or((words, ""));
-    let content = match name {
-        "file" => Content::File(bytes_of(alloc, rest)?),
-        "symlink" => Content::Symlink(word_of(alloc, rest)?),
-        "directory" => Content::Directory,
-        _ => return Err(Fault::Wrong("nothing of this name comes to a path")),
-    };
-    Ok((full_path(alloc, path)?, content))
 }
 
 // The number of a moment, or `None` while it is looked for.
@@ -236,7 +181,7 @@ fn is_sought(scene: &Scene<'_>) -> Result<bool, Fault> {
         "path" => Ok(scene.disk.has(scene.path(words)?.as_str())?),
         "text" => {
             let (path, text) = two_of(words)?;
-            has_text(scene, path, text)
+            has_text(scene.alloc, &scene.disk, path, text)
         }
         "journal" => says_stage(scene, words),
         _ => Err(Fault::Wrong("no such moment")),
@@ -270,13 +215,6 @@ pub fn journal_on(scene: &Scene<'_>) -> Result<Option<Journal>, Fault> {
         Ok(journal) => Ok(Some(journal)),
         Err(_) => Err(Fault::Wrong("the journal isn't one")),
     }
-}
-
-/// Whether a file with this text is at a path.
-pub fn has_text(scene: &Scene<'_>, path: &str, text: &str) -> Result<bool, Fault> {
-    let path = scene.path(path)?;
-    let text = text_of(scene.alloc, text)?;
-    Ok(scene.disk.is_file(path.as_str(), text.as_str())?)
 }
 
 // Whether something else is on the disk than before the call before, but for texts of journals that are being written.

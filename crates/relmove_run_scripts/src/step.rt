@@ -1,8 +1,8 @@
 //! A statement of a script.
 use crate::call::make_call;
 use crate::checks::{
-    go_on_if, need_absent, need_end, need_never, need_private, need_questions, need_remarks,
-    need_rights, need_same_disk, need_synced, need_there, need_true_origin, need_true_stage,
+    go_on_if, need_end, need_never, need_private, need_questions, need_remarks, need_rights,
+    need_same_disk, need_synced, need_true_origin, need_true_stage,
 };
 use crate::faults::{before, fail, judge, refuse};
 use crate::kept::{ends, need_after, need_before, need_tree, survives};
@@ -10,7 +10,8 @@ use crate::scene::{Flow, NOTHING, Scene};
 use crate::settings::{put_journal, set};
 use relmove_disk::Failing;
 use relmove_statements::{
-    Definition, Failure, Fault, Line, at, change, lines_named, need_nothing, number_of,
+    Definition, Failure, Fault, Line, at, change, lines_named, need_absent, need_nothing,
+    need_there, number_of,
 };
 
 /// The name of a call.
@@ -62,8 +63,8 @@ fn step_in_words(scene: &mut Scene<'_>, name: &str, words: &str) -> Result<Flow,
 // Compares what a call did with what a statement says, or changes the disk.
 fn check(scene: &mut Scene<'_>, name: &str, words: &str) -> Result<Flow, Fault> {
     match name {
-        "has" => need_there(scene, words),
-        "lacks" => need_absent(scene, words),
+        "has" => go_on(need_there(scene.alloc, &scene.disk, words)),
+        "lacks" => go_on(need_absent(scene.alloc, &scene.disk, words)),
         SAME => need_same_disk(scene),
         "rights" => need_rights(scene, words),
         "private" => need_private(scene, words),
@@ -72,6 +73,12 @@ fn check(scene: &mut Scene<'_>, name: &str, words: &str) -> Result<Flow, Fault> 
         "true" => need_true(scene, words),
         _ => set_up(scene, name, words),
     }
+}
+
+// Goes on unless something failed.
+fn go_on(outcome: Result<(), Fault>) -> Result<Flow, Fault> {
+    outcome?;
+    Ok(Flow::On)
 }
 
 // Fails unless the journal says what is so.

@@ -2,7 +2,9 @@
 use crate::case::case_named;
 use crate::scene::{Flow, Scene};
 use crate::step::{CALL, step};
-use relmove_statements::{Definition, Failure, Fault, Line, Runner, at, cut, number_of, wrong};
+use relmove_statements::{
+    Definition, Failure, Fault, Line, Runner, add_when, at, cut, number_of, wrong,
+};
 use std::alloc::{AllocError, Global};
 
 // The name of a case, and of the statement that counts how often a script comes to it.
@@ -78,16 +80,11 @@ fn counts_of(alloc: Global, lines: &[Line<'_>]) -> Result<Vec<u32>, Fault> {
 
 // Says at which values a statement failed.
 fn with_values(scene: &Scene<'_>, failure: Failure) -> Failure {
-    let Failure { number, fault, .. } = failure;
     let when = match scene.sweep.words(scene.alloc) {
         Ok(when) => when,
         Err(_) => None,
     };
-    Failure {
-        number,
-        fault,
-        when,
-    }
+    add_when(failure, when)
 }
 
 // Runs the statements once.

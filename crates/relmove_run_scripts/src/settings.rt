@@ -5,7 +5,9 @@ use crate::scene::{Flow, Scene};
 use crate::work::{stage_of, work_of};
 use relmove_disk::{Content, Disk, file_of};
 use relmove_run::{Journal, Origin, Stage, Work, journal_text};
-use relmove_statements::{Definition, Fault, lines_named, number_of, owner_of, two_of, word_of};
+use relmove_statements::{
+    Definition, Fault, count_questions, lines_named, number_of, owner_of, two_of, word_of,
+};
 use std::io::ErrorKind;
 
 /// Does what a statement says of the disk that no call changes. Returns whether it has a meaning.
@@ -34,20 +36,12 @@ fn set_kind(scene: &mut Scene<'_>, name: &str, words: &str) -> Result<bool, Faul
         "one-inode" => scene.disk.set_one_inode(),
         "giving" => scene.disk.allow_giving(true),
         "locked" => scene.disk.set_locked(true),
-        "ask-for" => ask_for(scene, words)?,
+        "ask-for" => count_questions(scene.alloc, &scene.disk, words)?,
         "remember" => scene.remembered = listing_outside(scene)?,
         "forge" => forge(scene, words)?,
         _ => return Ok(false),
     }
     Ok(true)
-}
-
-// From now on the disk counts how often it is asked what is at a path.
-fn ask_for(scene: &Scene<'_>, word: &str) -> Result<(), Fault> {
-    if let Some(outside) = word.strip_prefix("../") {
-        return Ok(scene.disk.count_questions(outside)?);
-    }
-    Ok(scene.disk.count_questions(scene.path(word)?.as_str())?)
 }
 
 // Gives a file a second name.
