@@ -25,10 +25,10 @@ path. Nothing that is there is replaced. Missing directories are made. Without -
 output says what would be changed.
 
   --write     move the files, and write the pages; a page that changes loses its access control list and its extended
-              attributes
-  --json      print an object of JSON on each line
+              attributes: relmove --write docs old.md new.md
+  --json      print an object of JSON on each line: relmove --json --check docs
   --verbose   print each old and new target, and with --check how much was read: relmove --check --verbose docs
-  --any-name  allow a NEW that isn't a plain name on every platform
+  --any-name  allow a NEW that isn't a plain name on every platform: relmove --any-name docs old.md aux.md
   --into DIR  move each OLD into DIR, a path below ROOT, or . for ROOT: relmove --into img docs a.png guide/b.png
   --moved     only change the pages, since the files have moved already: relmove --moved --write docs old.md new.md
   --moves FILE
@@ -41,18 +41,19 @@ output says what would be changed.
               relmove --site-root content site content/a.md content/guide/a.md
   --quiet-mentions
               don't say where an old path is written that isn't a link: relmove --quiet-mentions docs old.md new.md
-  --check     print each relative link of a page that leads above ROOT, or to a path below ROOT where nothing is
+  --check     print each relative link of a page that leads above ROOT, or to a path below ROOT where nothing is:
+              relmove --check docs
   --fragments with --check: print a link to a page too whose fragment no heading and no element of HTML has as its name:
               relmove --check --fragments docs
   --pages-as FORM
               a link to a.html (html), a/ (dir) or a (bare), where nothing is, leads to the page a.md, since the site shows
               it so: relmove --pages-as html docs a.md b.md
-  --resume    end a run that stopped: the run goes on, or, if it was going back, it goes back
-  --undo      take back a run that stopped before everything was at its new path
+  --resume    end a run that stopped: the run goes on, or, if it was going back, it goes back: relmove --resume docs
+  --undo      take back a run that stopped before everything was at its new path: relmove --undo docs
   --trust-journal
               with --resume or --undo: believe a journal that was written in another folder, of which ROOT is a copy;
-              print what it asks for, and do it only with --write
-  --          the words after it are paths, also if they begin with -
+              print what it asks for, and do it only with --write: relmove --undo --trust-journal copy
+  --          the words after it are paths, also if they begin with -: relmove docs -- -old.md new.md
 
 Pages are the files below ROOT whose names end in .md or .markdown, in any case, and that are UTF-8. Pages with a name
 in their path that begins with a dot, other than .github, are neither read nor changed. Links are those of Markdown,
