@@ -40,7 +40,8 @@ output says what would be changed.
               read links that begin with one slash too, from DIR, a directory below ROOT, or . for ROOT:
               relmove --site-root content site content/a.md content/guide/a.md
   --quiet-mentions
-              don't say where an old path is written that isn't a link: relmove --quiet-mentions docs old.md new.md
+              don't print where an old path is written in code, in other files or in links that aren't read:
+              relmove --quiet-mentions docs old.md new.md
   --check     print each relative link of a page that leads above ROOT, or to a path below ROOT where nothing is:
               relmove --check docs
   --fragments with --check: print a link to a page too whose fragment no heading and no element of HTML has as its name:
