@@ -21,8 +21,8 @@ returns g c =
     let targets : targets_of edits ≡ c.in_ok-targets.targets.items =
     targets_of-settled written edits c.in_ok-settled.ensures.edits
     ∙ (rw c.deref.ensures.value at c.in_ok-edits.ensures.targets) in
-    ForMovedPage-rewritten finds c.args.root.now c.args.moves.now c.args.links.now (components c.args.page.path.now) c.in_ok-moved.moved page edits
-    c.in_ok-settled.settled.text c.in_ok-moved.ensures.before c.in_ok-moved.ensures.after
+    ForMovedPage-rewritten finds c.args.root.now c.args.moves.now c.args.links.now (components c.args.page.path.now)
+    c.in_ok-moved.moved page edits c.in_ok-settled.settled.text c.in_ok-moved.ensures.before c.in_ok-moved.ensures.after
     (record {
       found = subst (finds page) (sym targets) c.in_ok-targets.ensures.found;
       in_order = subst (HasTargets page 0) (sym targets) c.in_ok-targets.ensures.in_order;

@@ -22,8 +22,8 @@ returns-in_default c = λ olds has before.
     AreMentionsBefore-next olds c.args.searched.file c.loop-end.mentions.items c.args.start (c.loop-end.end + 1)
     (λ span old is same.
     ends-before_other c.args.searched.file.text.now span c.args.start c.loop-end.end c.loop-end.left c.most_at-most.result
-    ((c.most_at-most.ensures olds c.args.searched.file has (c.requires.wide olds has)).few span old is same) same inv.order c.loop-end-test.true c.in_default.ensures.none.0
-    c.in_default.ensures.none.1 inv.others)
+    ((c.most_at-most.ensures olds c.args.searched.file has (c.requires.wide olds has)).few span old is same) same inv.order
+    c.loop-end-test.true c.in_default.ensures.none.0 c.in_default.ensures.none.1 inv.others)
     (inv.so_far olds has before)
 
 pub push_at-requires-clause-others : goal.push_at-requires-clause-others
