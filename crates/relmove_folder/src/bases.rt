@@ -1,15 +1,18 @@
 //! The directories from which the paths in a file can lead.
+use crate::addresses::without_extension;
 use crate::extensions::is_data;
+use crate::tree::normal_text;
 use relative_path::RelativePath;
 use relative_path_moves::TreeMoves;
 use relative_path_places::{NormalPath, directory};
-use relmove_journal::name_of;
+use relmove_journal::{directory_of, name_of};
 use relmove_mentions::is_page;
 use std::alloc::{AllocError, Global};
 use std::collections::BTreeSet;
 
 /// The directories from which a path can lead that begins with a slash, or has a directory before its name: the root, and of
-/// the directories above an old path of a move each that is in the root, or has a name that tops of sites have.
+/// the directories above an old path of a move each that is in the root, has a name that tops of sites have, or has that of a
+/// language and is in such a directory. So is the site's root, if it is known.
 #[derive(Drop)]
 pub struct Tops {
     /// Their paths before the moves.
@@ -19,9 +22,13 @@ pub struct Tops {
 }
 
 impl Tops {
-    /// The tops of moves. Allocates their paths.
-    pub fn of(alloc: Global, moves: &TreeMoves<'_>) -> Result<Tops, AllocError> {
-        let before = directories_above(alloc, moves)?;
+    /// The tops of moves on a site whose root may be known by its path. Allocates the paths.
+    pub fn of(
+        alloc: Global,
+        moves: &TreeMoves<'_>,
+        site_root: Option<&str>,
+    ) -> Result<Tops, AllocError> {
+        let before = directories_above(alloc, moves, site_root)?;
         let mut after = Vec::with_capacity(alloc, before.len())?;
         for top in &before {
             after.push(moves.path_after(alloc, top.as_relative_path())?)?;
@@ -30,9 +37,16 @@ impl Tops {
     }
 }
 
-// The directories above the old paths of moves.
-fn directories_above(alloc: Global, moves: &TreeMoves<'_>) -> Result<Vec<NormalPath>, AllocError> {
+// The tops above the old paths of moves, and the site's root.
+fn directories_above(
+    alloc: Global,
+    moves: &TreeMoves<'_>,
+    site_root: Option<&str>,
+) -> Result<Vec<NormalPath>, AllocError> {
     let mut texts = BTreeSet::new(alloc);
+    if let Some(path) = site_root {
+        texts.insert(normal_text(alloc, path)?)?;
+    }
     for a in moves.moves() {
         insert_above(
             alloc,
@@ -59,9 +73,30 @@ fn insert_above(alloc: Global, texts: &mut BTreeSet<String>, path: &str) -> Resu
     Ok(())
 }
 
-// Whether a directory below the root may be the top of a site: it is in the root, or has such a name.
+// Whether a directory below the root may be the top of a site: it is in the root, or has such a name. So may one that has the
+// name of a language in such a directory, as `content/en`.
 fn may_be_top(path: &str) -> bool {
+    has_name_of_top(path)
+        || (is_name_of_language(name_of(path)) && has_name_of_top(directory_of(path)))
+}
+
+// Whether a directory is in the root, or has a name that tops of sites have.
+fn has_name_of_top(path: &str) -> bool {
     !path.contains('/') || TOP_NAMES.iter().any(|name| *name == name_of(path))
+}
+
+// Whether a name is two letters, perhaps with a hyphen or `_` and more after them: `en`, `pt-br`, `zh_Hant`.
+fn is_name_of_language(name: &str) -> bool {
+    match name.as_bytes() {
+        [one, two] => is_letter(*one) && is_letter(*two),
+        [one, two, b'-' | b'_', _, ..] => is_letter(*one) && is_letter(*two),
+        _ => false,
+    }
+}
+
+// Whether a byte is an ASCII letter.
+fn is_letter(byte: u8) -> bool {
+    byte.is_ascii_alphabetic()
 }
 
 // Names of the tops of sites, and of directories that are served as if they were.
@@ -123,15 +158,6 @@ pub fn directories_of<'t>(
         }
     }
     Ok(directories)
-}
-
-// The path without its extension.
-fn without_extension<'a>(path: RelativePath<'a>) -> RelativePath<'a> {
-    let text = path.as_str();
-    match text.rsplit_once('.') {
-        Some((front, _)) => RelativePath::new(front),
-        None => path,
-    }
 }
 
 // Appends the tops in a directory, as directories of a file.

@@ -1,4 +1,5 @@
 //! Finds the links of pages that lead to nothing.
+use crate::addresses::shown_from;
 use crate::checked::{Checked, DeadLink, WhyDead, order};
 use crate::fragments::{FragmentLink, dead_fragments, fragment_link, lone_fragment};
 use crate::pages_as::{PagesAs, ShownPage, ends_in_dots, shown_page};
@@ -221,9 +222,28 @@ fn check_link<S: Store>(
         Some(shown) if options.pages_as == Some(shown.form) => {
             checking.ask(tree, place, shown.page.as_str())?;
         }
-        shown => checking.add_dead(alloc, link, fault.with_page(shown), positions)?,
+        shown => match page_from_address(alloc, tree, options, link)? {
+            Some(page) => checking.ask(tree, place, page.as_str())?,
+            None => checking.add_dead(alloc, link, fault.with_page(shown), positions)?,
+        },
     }
     Ok(())
+}
+
+// What a link leads to from the address of its page, on a site that shows `a.md` as `a/`.
+fn page_from_address(
+    alloc: Global,
+    tree: &Tree,
+    options: LinkOptions<'_>,
+    link: WrittenLink<'_>,
+) -> Result<Option<String>, AllocError> {
+    if options.pages_as != Some(PagesAs::Directory)
+        || options.root.start_of(link.written).is_some()
+    {
+        return Ok(None);
+    }
+    let page = RelativePath::new(link.page.path.as_str());
+    shown_from(alloc, tree, page, link.path)
 }
 
 // What is wrong with a path to which a link leads.

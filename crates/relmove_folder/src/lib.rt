@@ -7,7 +7,9 @@
 //! what is in the pages    dead_links  mentions
 //! parts of these          fragments  search
 //! what it knows           moved_names  targets  places  shown_names
-//! what moves, and whence  moving_tree  bases  words
+//! what moves, and whence  bases  words
+//! the addresses of pages  addresses
+//! a tree that moves       moving_tree
 //! what is at a path       presence  seen  site_root
 //! what a check finds      checked  pages_as
 //! what is below the root  tree
@@ -32,6 +34,7 @@ pub use self::tree::{
     normal_text, read_tree,
 };
 
+mod addresses;
 mod bases;
 mod checked;
 mod dead_links;

@@ -1,8 +1,9 @@
 //! Where the old paths of a run are written, apart from links that are read.
+use crate::addresses::MovedPage;
 use crate::extensions::is_searched_file;
 use crate::moved_names::{Names, SearchedPaths, relative_paths};
 use crate::moving_tree::MovingTree;
-use crate::pages_as::ShownMove;
+use crate::pages_as::{PagesAs, ShownMove};
 use crate::places::MentionPlaces;
 use crate::search::Search;
 use crate::seen::find;
@@ -11,7 +12,7 @@ use crate::tree::{
     EntryKind, LONGEST_PAGE, Page, TOO_LONG, Tree, is_at_or_below, is_left_out, normal_paths,
 };
 use relative_path::RelativePath;
-use relative_path_links::{Edit, MovedSitePage};
+use relative_path_links::MovedSitePage;
 use relative_path_moves::TreeMoves;
 use relmove_store::{RunFault, Store, SystemCall, at};
 use std::alloc::{AllocError, Global};
@@ -26,6 +27,10 @@ pub struct SearchOptions<'a> {
     pub made: bool,
     /// The moves of the names under which the site shows pages, by which links to these names are mended.
     pub shown: &'a [ShownMove],
+    /// The path of the site's root, if it is known.
+    pub site_root: Option<&'a str>,
+    /// How the site shows its pages, if links use these names.
+    pub pages_as: Option<PagesAs>,
 }
 
 /// Finds where the old paths of moves are written: in pages outside the targets that are read, and in other files with
@@ -41,13 +46,14 @@ pub fn mentions_of<S: Store>(
     pages: &[MovedSitePage],
     options: SearchOptions<'_>,
 ) -> Result<MentionPlaces, RunFault> {
-    let paths = SearchedPaths::of(store.alloc(), tree, moves)?;
+    let paths = SearchedPaths::of(store.alloc(), tree, moves, options.site_root)?;
     let moving = MovingTree {
         tree,
         moves,
         made: options.made,
         numbers: &paths.numbers,
         shown: options.shown,
+        pages_as: options.pages_as,
     };
     search_all(store, moving, &paths, pages, options.excluded)
 }
@@ -99,7 +105,7 @@ impl Search<'_, '_, '_> {
         found: &mut MentionPlaces,
     ) -> Result<(), AllocError> {
         for (page, new) in self.moving.tree.pages.iter().zip(news) {
-            self.add_page(alloc, page, &new.edits, found)?;
+            self.add_page(alloc, page, new, found)?;
         }
         Ok(())
     }
@@ -109,10 +115,14 @@ impl Search<'_, '_, '_> {
         &self,
         alloc: Global,
         page: &Page,
-        edits: &[Edit],
+        new: &MovedSitePage,
         found: &mut MentionPlaces,
     ) -> Result<(), AllocError> {
-        let targets = PageTargets::of(alloc, self.moving, edits)?;
+        let moved = MovedPage {
+            page,
+            new: &new.path,
+        };
+        let targets = PageTargets::of(alloc, self.moving, moved, &new.edits)?;
         self.add_text(
             alloc,
             page.path.as_str(),

@@ -24,16 +24,17 @@ pub struct SearchedPaths {
 }
 
 impl SearchedPaths {
-    /// What is searched for in a tree. Allocates the paths.
+    /// What is searched for in a tree, which may have a site with a known root. Allocates the paths.
     pub fn of(
         alloc: Global,
         tree: &Tree,
         moves: &TreeMoves<'_>,
+        site_root: Option<&str>,
     ) -> Result<SearchedPaths, AllocError> {
         let numbers = numbers_of(alloc, moves.moves())?;
         let moved = PathPairs::of(alloc, moves, moved_paths(alloc, tree, &numbers)?)?;
         let all = PathPairs::of(alloc, moves, paths_for_moved(alloc, tree, &moved)?)?;
-        let tops = Tops::of(alloc, moves)?;
+        let tops = Tops::of(alloc, moves, site_root)?;
         Ok(SearchedPaths {
             numbers,
             moved,

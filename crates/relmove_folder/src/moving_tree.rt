@@ -1,5 +1,5 @@
 //! A tree, and the moves in it.
-use crate::pages_as::ShownMove;
+use crate::pages_as::{PagesAs, ShownMove};
 use crate::tree::{EntryKind, Tree, is_directory_entry};
 use relative_path::RelativePath;
 use relative_path_moves::{Move, TreeMoves};
@@ -20,6 +20,8 @@ pub struct MovingTree<'a, 'm> {
     pub numbers: &'a BTreeMap<String, usize>,
     /// The moves of the names under which the site shows pages.
     pub shown: &'a [ShownMove],
+    /// How the site shows its pages, if links use these names.
+    pub pages_as: Option<PagesAs>,
 }
 
 impl MovingTree<'_, '_> {

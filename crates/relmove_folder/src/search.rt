@@ -45,24 +45,25 @@ impl<'p> Search<'_, '_, 'p> {
             text,
         };
         let mut places = Vec::new(alloc);
-        self.add_indexes(alloc, targets, &mut places)?;
+        self.add_lost(alloc, targets, &mut places)?;
         self.add_mentions(alloc, file, targets, &mut places)?;
         places.sort_by_key(|place| place.start)?;
         self.add_places(alloc, file, &places, found)
     }
 
-    // Adds the index pages that leave the directories of targets.
-    fn add_indexes(
+    // Adds the old paths to which targets no longer lead.
+    fn add_lost(
         &self,
         alloc: Global,
         targets: &PageTargets<'_>,
         places: &mut Vec<OldPathAt>,
     ) -> Result<(), AllocError> {
-        for target in &targets.to_directories {
+        for target in &targets.lost {
             let old = String::from_str(alloc, target.old.as_str())?;
             places.push(OldPathAt {
                 start: target.start,
                 old,
+                number: target.number,
             })?;
         }
         Ok(())
@@ -113,6 +114,7 @@ impl<'p> Search<'_, '_, 'p> {
             places.push(OldPathAt {
                 start: mention.span.start,
                 old,
+                number: None,
             })?;
         }
         Ok(())
@@ -247,7 +249,11 @@ impl<'p> Search<'_, '_, 'p> {
     ) -> Result<(), AllocError> {
         let shown = self.moving.shown_path(alloc, file.path.as_str())?;
         let mut positions = Positions::new(file.text);
-        let mut last = LinePath { line: 0, path: "" };
+        let mut last = LinePath {
+            line: 0,
+            path: "",
+            number: None,
+        };
         for place in places {
             let at = line_path(place, &mut positions);
             if at != last {
@@ -258,7 +264,8 @@ impl<'p> Search<'_, '_, 'p> {
         Ok(())
     }
 
-    // Adds a place in a file. What stays, and no longer is where a file that moves says, counts for that file's move.
+    // Adds a place in a file. What stays, and no longer is where a file that moves says, counts for that file's move, and else
+    // for the move that changes what is written.
     fn add(
         &self,
         alloc: Global,
@@ -267,9 +274,10 @@ impl<'p> Search<'_, '_, 'p> {
         place: LinePath<'_>,
         found: &mut MentionPlaces,
     ) -> Result<(), AllocError> {
-        let LinePath { line, path } = place;
+        let LinePath { line, path, number } = place;
         let moves = self.moving.number_of(path);
-        let Some(number) = moves.or_else(|| self.moving.number_of(file.path.as_str())) else {
+        let file_moves = moves.or_else(|| self.moving.number_of(file.path.as_str()));
+        let Some(number) = file_moves.or(number) else {
             return Ok(());
         };
         if found.count(number) {
@@ -291,18 +299,21 @@ struct SearchedFile<'a, 'n> {
     text: &'a str,
 }
 
-// An old path, and the offset at which it is written.
+// An old path, and the offset at which it is written. If neither the path nor the file moves, the move with this number
+// changes what is written.
 #[derive(Drop)]
 struct OldPathAt {
     start: usize,
     old: String,
+    number: Option<usize>,
 }
 
-// An old path, and the line in which it is written.
+// An old path, the line in which it is written, and the move that changes what is written.
 #[derive(Clone, Copy, PartialEq, Eq)]
 struct LinePath<'a> {
     line: usize,
     path: &'a str,
+    number: Option<usize>,
 }
 
 // The old path at a place, and its line.
@@ -314,6 +325,7 @@ fn line_path<'p>(place: &'p OldPathAt, positions: &mut Positions<'_>) -> LinePat
     LinePath {
         line,
         path: place.old.as_str(),
+        number: place.number,
     }
 }
 

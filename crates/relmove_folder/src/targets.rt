@@ -1,4 +1,5 @@
 //! The targets of a page that the search for old paths has to know.
+use crate::addresses::{FromAddress, MovedPage, from_address};
 use crate::moving_tree::MovingTree;
 use crate::presence::{Presence, presence_at};
 use relative_path::RelativePath;
@@ -11,8 +12,8 @@ use std::alloc::{AllocError, Global};
 pub struct PageTargets<'e> {
     /// The spans of those that are read, in order.
     pub read: Vec<TextSpan>,
-    /// Those that lead to directories whose index pages leave.
-    pub to_directories: Vec<ToDirectory>,
+    /// Those that no longer lead to what is at an old path: to a directory whose index page leaves, or from a page's address.
+    pub lost: Vec<LostTarget>,
     /// Those that lead to nothing, and get new texts, in order.
     pub rewritten: Vec<Rewritten<'e>>,
 }
@@ -22,7 +23,7 @@ impl<'e> PageTargets<'e> {
     pub fn new(alloc: Global) -> PageTargets<'e> {
         PageTargets {
             read: Vec::new(alloc),
-            to_directories: Vec::new(alloc),
+            lost: Vec::new(alloc),
             rewritten: Vec::new(alloc),
         }
     }
@@ -31,13 +32,34 @@ impl<'e> PageTargets<'e> {
     pub fn of(
         alloc: Global,
         moving: MovingTree<'_, '_>,
+        moved: MovedPage<'_>,
         edits: &'e [Edit],
     ) -> Result<PageTargets<'e>, AllocError> {
         let mut targets = PageTargets::new(alloc);
         for edit in edits {
-            targets.add(alloc, moving, edit)?;
+            match from_address(alloc, moving, moved, edit)? {
+                FromAddress::No => targets.add(alloc, moving, edit)?,
+                FromAddress::Kept => targets.read.push(span_of(edit))?,
+                FromAddress::Lost(old, number) => targets.add_lost(edit, old, number)?,
+            }
         }
         Ok(targets)
+    }
+
+    // Adds the target of an edit that leads from its page's address, and no longer to what is at an old path.
+    fn add_lost(
+        &mut self,
+        edit: &Edit,
+        old: String,
+        number: Option<usize>,
+    ) -> Result<(), AllocError> {
+        self.lost.push(LostTarget {
+            start: edit.target.start,
+            old,
+            number,
+        })?;
+        self.read.push(span_of(edit))?;
+        Ok(())
     }
 
     // Adds the target of an edit.
@@ -47,10 +69,7 @@ impl<'e> PageTargets<'e> {
         moving: MovingTree<'_, '_>,
         edit: &'e Edit,
     ) -> Result<(), AllocError> {
-        let span = TextSpan {
-            start: edit.target.start,
-            end: edit.target.end,
-        };
+        let span = span_of(edit);
         match (&edit.file, &edit.change) {
             (None, Change::Kept) => Ok(()),
             (None, _) | (Some(_), Change::Left(_)) => {
@@ -80,9 +99,10 @@ impl<'e> PageTargets<'e> {
     ) -> Result<(), AllocError> {
         let Rewritten { span, file } = target;
         if let Some(old) = moving.left_index(alloc, file)? {
-            self.to_directories.push(ToDirectory {
+            self.lost.push(LostTarget {
                 start: span.start,
                 old,
+                number: None,
             })?;
             self.read.push(span)?;
             return Ok(());
@@ -115,13 +135,23 @@ impl<'e> PageTargets<'e> {
     }
 }
 
-/// A target that leads to a directory whose index page leaves.
+// The span of an edit's target.
+fn span_of(edit: &Edit) -> TextSpan {
+    TextSpan {
+        start: edit.target.start,
+        end: edit.target.end,
+    }
+}
+
+/// A target that no longer leads to what is at an old path.
 #[derive(Drop)]
-pub struct ToDirectory {
+pub struct LostTarget {
     /// The offset of the target.
     pub start: usize,
-    /// The path of the index page.
+    /// The path.
     pub old: String,
+    /// The number of the move that gives it another text, if there is one.
+    pub number: Option<usize>,
 }
 
 /// A target that leads to nothing, and gets a new text.

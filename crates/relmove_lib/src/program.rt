@@ -621,6 +621,8 @@ fn asked_mentions<'x, S: Store>(
         excluded: options.excluded,
         made: options.made,
         shown: &moving.shown,
+        site_root: options.site_root,
+        pages_as: options.pages_as,
     };
     mentions_of(store, tree, &plan.moves, &plan.pages, options)
 }
@@ -908,7 +910,10 @@ fn end_run<R: Machine, O: Write, E: Write>(
         },
     };
     match &ended {
-        Ok(ended) => end(ended, root, out, errors),
+        Ok(ended) => {
+            let status = end(ended, root, out, errors);
+            status_after(ended, direction, status)
+        }
         Err(fault) => refuse(root, fault, errors),
     }
 }
@@ -962,6 +967,15 @@ fn end<O: Write, E: Write>(ended: &Ended, root: &str, out: &mut O, errors: &mut 
     };
     let _ = out.flush();
     status_of(ended)
+}
+
+// The status of a call that ended a run, if that's this one for the run. A call to go on that took the run back didn't do what
+// the run was to do.
+fn status_after(ended: &Ended, direction: Direction, status: Status) -> Status {
+    match (ended, direction) {
+        (Ended::TakenBack { .. }, Direction::Resume) if status == Status::Kept => Status::Refused,
+        _ => status,
+    }
 }
 
 // Whether a run didn't end as it was to.

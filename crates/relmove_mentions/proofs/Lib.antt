@@ -1,3 +1,4 @@
+mod HashesLemmas
 mod FirstLemmas
 mod EndingsLemmas
 mod OldNamesLemmas

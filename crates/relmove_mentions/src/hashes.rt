@@ -1,29 +1,32 @@
 //! A set of hashes.
-ghost use Rattle.std.specs.Prelude.{◌≡◌, ℕ, true};
-ghost use Rattle.relmove_mentions.specs.Hashes.{may_have};
+ghost use Rattle.std.specs.Prelude.{◌≡◌, ◌<◌, ℕ, true};
+ghost use Rattle.relmove_mentions.specs.Hashes.{has_bit, may_have};
 
 use std::alloc::{AllocError, Global};
 
-// For each hash so many flags, and for at most so many hashes.
-const FLAGS_EACH: usize = 128;
+// For each hash so many bits, and for at most so many hashes.
+const BITS_EACH: usize = 128;
 
 const MOST_HASHES: usize = 32_768;
+
+// How many bits a word has.
+const WORD: u64 = 64;
 
 // A set of hashes. It can also have a hash that was never inserted.
 #[derive(Drop)]
 pub(crate) struct Hashes {
-    flags: Vec<bool>,
+    words: Vec<u64>,
     mask: u64,
 }
 
 impl Hashes {
     // Returns an empty set, with room for about so many hashes.
     pub(crate) fn new(alloc: Global, count: usize) -> Result<Hashes, AllocError> {
-        let len = FLAGS_EACH * count.clamp(1, MOST_HASHES).next_power_of_two();
-        let flags = vec![in alloc; false; len]?;
+        let bits = BITS_EACH * count.clamp(1, MOST_HASHES).next_power_of_two();
+        let words = vec![in alloc; 0; bits / WORD as usize]?;
         Ok(Hashes {
-            flags,
-            mask: len as u64 - 1,
+            words,
+            mask: bits as u64 - 1,
         })
     }
 
@@ -32,8 +35,9 @@ impl Hashes {
         ensures has { may_have self.new hash ≡ true }
         ensures keeps { (other : ℕ) → may_have self.old other ≡ true → may_have self.new other ≡ true }
     {
-        if let Some(flag) = self.flags.get_mut((hash & self.mask) as usize) {
-            *flag = true;
+        let at = hash & self.mask;
+        if let Some(word) = self.words.get_mut((at / WORD) as usize) {
+            *word |= 1 << (at % WORD);
         }
     }
 
@@ -42,9 +46,19 @@ impl Hashes {
     pub(crate) fn may_have(&self, hash: u64) -> bool
         ensures { result ≡ may_have self.now hash }
     {
-        match self.flags.get((hash & self.mask) as usize) {
-            Some(flag) => *flag,
+        let at = hash & self.mask;
+        match self.words.get((at / WORD) as usize) {
+            Some(word) => has_bit(*word, at % WORD),
             None => true,
         }
     }
+}
+
+// Returns whether a word has a bit.
+#[inline]
+fn has_bit(word: u64, bit: u64) -> bool
+    requires { bit < 64 }
+    ensures { result ≡ has_bit bit word }
+{
+    word >> bit & 1 == 1
 }

@@ -67,7 +67,7 @@ impl<'p> OldNames<'p> {
     /// the extension `html`, and without an extension, unless that leaves `.` or `..`; and as `README.md`, `index.md` or
     /// `_index.md` its directory's `index.html`, and its directory, unless that is the root.
     ///
-    /// Allocates a copy of each name and of its last name, entries for those that are new, and three tables of at most 256
+    /// Allocates a copy of each name and of its last name, entries for those that are new, and three tables of at most 32
     /// bytes for each path. Fails only if an allocation fails.
     ///
     /// ```
@@ -80,19 +80,23 @@ impl<'p> OldNames<'p> {
     pub fn of(alloc: Global, olds: &[NormalView<'p>]) -> Result<OldNames<'p>, AllocError>
         ensures { IfOk result (Has (map view_text olds.now)) }
     {
-        let mut names = OldNames::new(alloc, olds.len(), most_others_of(olds))?;
+        let mut names = OldNames::new(alloc, olds.len(), with_others(olds), most_others_of(olds))?;
         for old in olds {
             names.insert_names(alloc, *old)?;
         }
         Ok(names)
     }
 
-    // Returns the names of no path, with room for about so many.
-    fn new(alloc: Global, count: usize, most_others: usize) -> Result<OldNames<'p>, AllocError>
+    // Returns the names of no path, with room for about so many, and about so many with bytes that aren't path bytes.
+    fn new(
+        alloc: Global,
+        count: usize,
+        with_others: usize,
+        most_others: usize,
+    ) -> Result<OldNames<'p>, AllocError>
         ensures lists { IfOk result (Lists []) }
         ensures most { IfOk result (λ names. names.most_others ≡ most_others) }
     {
-        let with_others = if most_others == 0 { 0 } else { count };
         Ok(OldNames {
             by_text: BTreeMap::new(alloc),
             last_names: BTreeSet::new(alloc),
@@ -313,6 +317,11 @@ fn insert_text(alloc: Global, texts: &mut BTreeSet<String>, text: &str) -> Resul
     let owned = String::from_str(alloc, text)?;
     texts.insert(owned)?;
     Ok(())
+}
+
+// Returns how many paths of these have bytes that aren't path bytes.
+fn with_others(olds: &[NormalView<'_>]) -> usize {
+    olds.iter().filter(|old| has_others(**old, 1)).count()
 }
 
 // Returns the most bytes in a path of these that aren't path bytes.

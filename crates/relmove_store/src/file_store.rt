@@ -244,7 +244,9 @@ fn read_regular(runtime: &HostRuntime, path: &str, most: u64) -> io::Result<(Pag
     let file = fs::open(runtime, path)?;
     let metadata = file.metadata()?;
     need_file(metadata.file_type())?;
-    let mut bytes = Vec::new(runtime.alloc());
+    // One byte more than the file has, as far as is known: with no room left a read would make some to see the end.
+    let length = usize::try_from(most.min(metadata.len())).unwrap_or(0);
+    let mut bytes = Vec::with_capacity(runtime.alloc(), length.saturating_add(1))?;
     file.take(most).read_to_end(&mut bytes)?;
     Ok((PageFile::of(&found_of(&metadata)), bytes))
 }
