@@ -16,6 +16,9 @@ pub enum WhyRefused {
     DotDirectory(usize),
     /// This move was made before the call, and nothing is at its new path.
     NotArrived(usize),
+    /// This move of a page was made before the call, and a directory is at its new path, with a file in it that has the page's
+    /// name.
+    IntoDirectory(usize),
     /// This move was made before the call, and something else is at its old path.
     NotLeft(usize),
     /// The new path of this move has a name that begins as those of a run's own files, in another case. A file system may

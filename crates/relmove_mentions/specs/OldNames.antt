@@ -1,7 +1,6 @@
 -- The names that an `OldNames` has.
 use Rattle.std.specs.Prelude.{◌≡◌, ◌<◌, ◌≤◌, ℕ, Bool, true, List, map, Option, Some, MatchOption, IsSome, IsTrue, ◌++◌, ◌∷◌, []}
 use Rattle.std.specs.BTreeMap.{get_by_text}
-use Rattle.std.specs.BTreeSet.{contains_text}
 use Rattle.std.specs.List.{Contains, flat_map}
 use Rattle.std.specs.Option.{option_map_or}
 use Rattle.relative_path.specs.Steps.{Step, name}
@@ -33,10 +32,8 @@ with_names old names = map (λ steps. (old, steps)) names
 abbrev pub all_names : List (List ℕ) → List PathName
 all_names olds = flat_map (λ old. with_names old (names_of old)) olds
 
--- the set has this last name of a path, and what it ends in, also apart from others if the path has a byte that doesn't go
--- on a path
+-- the set has what this last name of a path ends in, also apart from others if the path has a byte that doesn't go on a path
 pub record HasLastName (set : OldNames) (old n : List ℕ) : Type 0 where
-  pub listed : IsTrue (contains_text set.last_names n)
   pub ending : IsTrue (may_have set.endings (ending_of n).hash)
   pub with_others : 0 < others_in old → IsTrue (may_have set.endings_with_others (ending_of n).hash)
 

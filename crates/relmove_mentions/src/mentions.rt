@@ -379,12 +379,9 @@ impl<'p> OldNames<'p> {
             return Ok(None);
         };
         let path = RelativePath::new(text);
-        let Some(last) = path.file_name() else {
+        let Some(_) = path.file_name() else {
             return Ok(None);
         };
-        if !self.has_last_name(last) {
-            return Ok(None);
-        }
         if !self.may_have_two(last_two_hash(path)) {
             return Ok(None);
         }

@@ -1,9 +1,7 @@
 //! The old paths of a run, by their names.
-ghost use Rattle.std.specs.Prelude.{◌≡◌, ◌<◌, ◌≤◌, ◌++◌, ◌∷◌, [], ℕ, List, map, max, nat_le, true, if◌then◌else◌, IfNone, IfOk, IfSome, MatchOption, OnOk, Some, ⊤};
+ghost use Rattle.std.specs.Prelude.{◌≡◌, ◌<◌, ◌≤◌, ◌++◌, ◌∷◌, [], ℕ, List, map, max, nat_le, true, IfNone, IfOk, IfSome, MatchOption, OnOk, Some, ⊤};
 ghost use Rattle.std.specs.Option.{option_map};
 ghost use Rattle.std.specs.BTreeMap.{get_by_text};
-ghost use Rattle.std.specs.BTreeSet.{contains_text};
-ghost use Rattle.std.specs.Str.{bytes_eq};
 ghost use Rattle.relative_path.specs.Editing.{kept};
 ghost use Rattle.relative_path.specs.Naming.{file_name_of, stem_of};
 ghost use Rattle.relative_path.specs.RelativePath.{path_components, path_text};
@@ -33,7 +31,7 @@ use crate::text_span::others_in;
 use relative_path::RelativePath;
 use relative_path_places::{NormalView, directory};
 use std::alloc::{AllocError, Global};
-use std::collections::{BTreeMap, BTreeSet};
+use std::collections::BTreeMap;
 
 /// The old paths of a run, by the names under which a file may mention them.
 ///
@@ -49,8 +47,7 @@ use std::collections::{BTreeMap, BTreeSet};
 #[derive(Drop)]
 pub struct OldNames<'p> {
     by_text: BTreeMap<String, NormalView<'p>>,
-    last_names: BTreeSet<String>,
-    // The hashes of what the last names end in.
+    // The hashes of what the last names of paths end in.
     pub(crate) endings: Hashes,
     // Those of the paths that have a byte that isn't a path byte.
     pub(crate) endings_with_others: Hashes,
@@ -67,8 +64,8 @@ impl<'p> OldNames<'p> {
     /// the extension `html`, and without an extension, unless that leaves `.` or `..`; and as `README.md`, `index.md` or
     /// `_index.md` its directory's `index.html`, and its directory, unless that is the root.
     ///
-    /// Allocates a copy of each name and of its last name, entries for those that are new, and three tables of at most 32
-    /// bytes for each path. Fails only if an allocation fails.
+    /// Allocates each name, an entry for each that is new, and three tables of at most 32 bytes for each path. Fails only if
+    /// an allocation fails.
     ///
     /// ```
     /// let pages = [NormalPath::of(alloc, RelativePath::new("docs/README.md"))?];
@@ -99,7 +96,6 @@ impl<'p> OldNames<'p> {
     {
         Ok(OldNames {
             by_text: BTreeMap::new(alloc),
-            last_names: BTreeSet::new(alloc),
             endings: Hashes::new(alloc, count)?,
             endings_with_others: Hashes::new(alloc, with_others)?,
             last_twos: Hashes::new(alloc, count)?,
@@ -200,7 +196,6 @@ impl<'p> OldNames<'p> {
         ensures most { self.new.most_others ≡ self.old.most_others }
     {
         let normal = name.normalize(alloc)?;
-        insert_last_name(alloc, &mut self.last_names, normal.as_relative_path())?;
         insert_ending(&mut self.endings, normal.as_relative_path());
         insert_ending_with_others(
             &mut self.endings_with_others,
@@ -218,13 +213,6 @@ impl<'p> OldNames<'p> {
         ensures { result ≡ self.now.most_others }
     {
         self.most_others
-    }
-
-    // Returns whether a name of an old path ends in this name.
-    pub(crate) fn has_last_name(&self, name: &str) -> bool
-        ensures { result ≡ contains_text self.now.last_names name.now }
-    {
-        self.last_names.contains(name)
     }
 
     // Returns whether a name of an old path may end in two names with this hash. If there is no hash, it may.
@@ -259,23 +247,6 @@ fn has_others(path: NormalView<'_>, others: usize) -> bool
     others == 0 || others <= others_in(path.as_relative_path().as_str().as_bytes())
 }
 
-// Inserts the last name of a path.
-fn insert_last_name(
-    alloc: Global,
-    last_names: &mut BTreeSet<String>,
-    path: RelativePath<'_>,
-) -> Result<(), AllocError>
-    ensures has { OnOk result ((n : List ℕ) → file_name_of (path_text path.entry) ≡ Some n
-        → contains_text last_names.new n ≡ true) }
-    ensures keeps { OnOk result ((n : List ℕ) → contains_text last_names.old n ≡ true
-        → contains_text last_names.new n ≡ true) }
-{
-    match path.file_name() {
-        Some(name) => insert_text(alloc, last_names, name),
-        None => Ok(()),
-    }
-}
-
 // Inserts what the last name of a path ends in.
 fn insert_ending(endings: &mut Hashes, path: RelativePath<'_>)
     ensures has { (n : List ℕ) → file_name_of (path_text path.entry) ≡ Some n
@@ -307,16 +278,6 @@ fn insert_last_two(last_twos: &mut Hashes, path: RelativePath<'_>)
     if let Some(hash) = last_two_hash(path) {
         last_twos.insert(hash);
     }
-}
-
-// Inserts a text.
-fn insert_text(alloc: Global, texts: &mut BTreeSet<String>, text: &str) -> Result<(), AllocError>
-    ensures { OnOk result ((other : List ℕ) → contains_text texts.new other
-        ≡ (if bytes_eq text.now other then true else contains_text texts.old other)) }
-{
-    let owned = String::from_str(alloc, text)?;
-    texts.insert(owned)?;
-    Ok(())
 }
 
 // Returns how many paths of these have bytes that aren't path bytes.

@@ -10,8 +10,11 @@ use relative_path_places::{NormalPath, PlaceIndex};
 use relmove_actions::Actions;
 use relmove_findings::WhyRefused;
 use relmove_folder::{
-    EntryKind, Page, ShownMove, Tree, is_at_or_below, leads_somewhere, normal_text,
+    EntryKind, Page, ShownMove, Tree, is_at_or_below, is_directory_entry, leads_somewhere,
+    normal_text,
 };
+use relmove_journal::{join, name_of};
+use relmove_mentions::is_page;
 use relmove_plan::Refusal;
 use relmove_steps::{After, actions_of};
 use relmove_store::{Found, Names, PageFile, RunFault, Store};
@@ -52,12 +55,16 @@ impl<'m> MadeMoves<'m> {
         Ok(made)
     }
 
-    // Fails if nothing is at the new path of a move.
+    // Fails if nothing is at the new path of a move, or the directory into which a page moved.
     fn need_at_new_paths(&self, alloc: Global, tree: &Tree) -> Result<(), WhyRefused> {
         for (number, a) in self.moves.moves().iter().enumerate() {
             let new = NormalPath::of(alloc, a.new.written())?;
-            if !tree.entries.contains_key(new.as_relative_path().as_str()) {
+            let new = new.as_relative_path().as_str();
+            if !tree.entries.contains_key(new) {
                 return Err(WhyRefused::NotArrived(number));
+            }
+            if has_page_of(alloc, tree, new, a.old.normal().as_relative_path())? {
+                return Err(WhyRefused::IntoDirectory(number));
             }
         }
         Ok(())
@@ -189,6 +196,20 @@ impl<'m> MadeMoves<'m> {
         };
         Ok(actions_of(alloc, &site, now)?)
     }
+}
+
+// Whether a directory has a file with the name of a page.
+fn has_page_of(
+    alloc: Global,
+    tree: &Tree,
+    directory: &str,
+    page: RelativePath<'_>,
+) -> Result<bool, AllocError> {
+    if !is_page(page) || !is_directory_entry(tree, directory) {
+        return Ok(false);
+    }
+    let path = join(alloc, directory, name_of(page.as_str()))?;
+    Ok(matches!(tree.entries.get(path.as_str()), Some(EntryKind::File)))
 }
 
 // The pages of a tree, where they are after moves.

@@ -624,6 +624,12 @@ pub fn print_refused<W: Write, S: Store>(
         WhyRefused::NotArrived(number) => {
             print_not_there(errors, store, tree, moves, (*number, Side::New))
         }
+        WhyRefused::IntoDirectory(number) => print_move_refused(
+            errors,
+            moves,
+            *number,
+            "the new path is a directory, and a file of this name is in it: give the whole new path",
+        ),
         WhyRefused::NotLeft(number) => {
             print_move_refused(errors, moves, *number, "something is at the old path")
         }

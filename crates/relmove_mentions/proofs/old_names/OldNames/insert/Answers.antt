@@ -1,4 +1,4 @@
--- The map's entry for the normal text gets the path if it is vacant, and the set has the last name of the text.
+-- The map's entry for the normal text gets the path if it is vacant, and the set has what the last name of the text ends in.
 use Rattle.std.proofs.Common.{string_bytes, ap, arith, sym, ◌∙◌}
 use Rattle.std.proofs.lemmas.Map.Text.{text_keys}
 use Rattle.relative_path.specs.Steps.{components}
@@ -17,13 +17,11 @@ returns-clause-lists c = λ names lists.
       (λ is.
           let text = sym c.into_string-text.ensures.text in
           record {
-            listed = c.in_ok-insert_last_name.ensures.has n (ap file_name_of (c.as_relative_path.ensures ∙ text) ∙ is);
-            ending = c.insert_ending.ensures.has n (ap file_name_of (c.as_relative_path-2.ensures ∙ text) ∙ is);
+            ending = c.insert_ending.ensures.has n (ap file_name_of (c.as_relative_path.ensures ∙ text) ∙ is);
             with_others =
-                c.insert_ending_with_others.ensures.has n (ap file_name_of (c.as_relative_path-3.ensures ∙ text) ∙ is);
+                c.insert_ending_with_others.ensures.has n (ap file_name_of (c.as_relative_path-2.ensures ∙ text) ∙ is);
           }),
       (λ other had. record {
-        listed = c.in_ok-insert_last_name.ensures.keeps n had.listed;
         ending = c.insert_ending.ensures.keeps (ending_of n).hash had.ending;
         with_others = λ some. c.insert_ending_with_others.ensures.keeps (ending_of n).hash (had.with_others some);
       }),
@@ -31,6 +29,6 @@ returns-clause-lists c = λ names lists.
     (λ hash. (
       λ is.
           c.insert_last_two.ensures.has hash
-          (ap (λ t. last_two_hash (components t)) (c.as_relative_path-4.ensures ∙ sym c.into_string-text.ensures.text) ∙ is),
+          (ap (λ t. last_two_hash (components t)) (c.as_relative_path-3.ensures ∙ sym c.into_string-text.ensures.text) ∙ is),
       c.insert_last_two.ensures.keeps hash,
     )) lists
