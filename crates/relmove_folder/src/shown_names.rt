@@ -8,8 +8,8 @@ use std::alloc::{AllocError, Global};
 use std::collections::BTreeSet;
 
 /// The moves of the names under which a site shows the pages that have a move of their own: of `a.html` to `b.html` if `a.md`
-/// moves to `b.md`. There is none for a page if something else is at one of the names, if its extension isn't `md`, or if the
-/// site shows it as its directory, as it does an index page.
+/// moves to `b.md`. There is none for a page if something else is at one of the names, if its extension isn't `md`, if the
+/// site shows it as its directory, as it does an index page, or if the page says itself under which address it is shown.
 ///
 /// Allocates the names, and if there may be one, the new path of each entry.
 pub fn shown_moves(
@@ -18,10 +18,14 @@ pub fn shown_moves(
     moves: &TreeMoves<'_>,
     form: PagesAs,
 ) -> Result<Vec<ShownMove>, AllocError> {
+    let apart = pages_with_addresses(alloc, tree)?;
     let mut shown = Vec::new(alloc);
     for a in moves.moves() {
         let old = a.old.normal().as_relative_path();
         let new = a.new.normal().as_relative_path();
+        if apart.contains(old.as_str()) {
+            continue;
+        }
         if let Some(old) = name_before(alloc, tree, old, form)?
             && let Some(new) = name_as(alloc, new, form)?
         {
@@ -33,6 +37,47 @@ pub fn shown_moves(
     }
     free_moves(alloc, &paths_after(alloc, tree, moves)?, shown)
 }
+
+// The paths of the pages that say themselves under which address a site shows them.
+fn pages_with_addresses(alloc: Global, tree: &Tree) -> Result<BTreeSet<String>, AllocError> {
+    let mut paths = BTreeSet::new(alloc);
+    for page in &tree.pages {
+        if has_address(page.text.as_str()) {
+            paths.insert(page.path.clone()?)?;
+        }
+    }
+    Ok(paths)
+}
+
+// Whether the front matter of a page gives its address.
+fn has_address(text: &str) -> bool {
+    let mut lines = text.lines();
+    let end = match lines.next() {
+        Some("---") => "---",
+        Some("+++") => "+++",
+        _ => return false,
+    };
+    for line in lines {
+        if line.trim_end() == end {
+            return false;
+        }
+        if gives_address(line) {
+            return true;
+        }
+    }
+    false
+}
+
+// Whether a line of front matter gives an address, or a part of one.
+fn gives_address(line: &str) -> bool {
+    ADDRESS_KEYS.iter().any(|key| match line.strip_prefix(*key) {
+        Some(rest) => rest.trim_start().starts_with(':') || rest.trim_start().starts_with('='),
+        None => false,
+    })
+}
+
+// The keys of front matter by which Hugo, Jekyll and Docusaurus give a page another address than its path's.
+const ADDRESS_KEYS: [&str; 3] = ["permalink", "slug", "url"];
 
 // The name under which a site shows the page at a path, if a page is there, and nothing else has the name.
 fn name_before(
