@@ -20,7 +20,7 @@ fn names_of(alloc: Global, old: &str, text: &str) -> Result<(), Fail> {
     row_mentions(alloc, &names, ("", text, expected.as_str()))
 }
 
-// Requests: 128 128 128 1s 5 5 368 608 = 7, 128 128 128 1s 4 4 368 608 6 1s 6 6 1 1s 1 1 = 11, 128 128 128 2s 6 4 368 608 = 7
+// Requests: 16 16 16 1s 5 608 = 5, 16 16 16 1s 4 608 6 1s 6 1 1s 1 = 7, 16 16 16 2s 6 608 = 5
 #[test]
 fn the_names_of_a_path(rt: HostRuntime) -> Result<(), Fail> {
     names_of(rt.alloc(), "a.txt", "a.txt")?;
