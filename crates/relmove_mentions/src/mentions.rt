@@ -379,9 +379,12 @@ impl<'p> OldNames<'p> {
             return Ok(None);
         };
         let path = RelativePath::new(text);
-        let Some(_) = path.file_name() else {
+        let Some(last) = path.file_name() else {
             return Ok(None);
         };
+        if !self.may_have_last(last) {
+            return Ok(None);
+        }
         if !self.may_have_two(last_two_hash(path)) {
             return Ok(None);
         }

@@ -215,6 +215,13 @@ impl<'p> OldNames<'p> {
         self.most_others
     }
 
+    // Returns whether the last name of a name of an old path may end as this one does.
+    pub(crate) fn may_have_last(&self, name: &str) -> bool
+        ensures { result ≡ may_have self.now.endings (ending_of name.now).hash }
+    {
+        self.endings.may_have(ending_of(name.as_bytes()).hash)
+    }
+
     // Returns whether a name of an old path may end in two names with this hash. If there is no hash, it may.
     #[inline]
     pub(crate) fn may_have_two(&self, two: Option<u64>) -> bool

@@ -7,9 +7,16 @@ use Rattle.relative_path.specs.Steps.{components}
 use Rattle.relmove_mentions.specs.NameHashes.{last_two_hash}
 use Rattle.relmove_mentions.specs.OldNames.{Finds, WithOthers, may_have_two}
 use Rattle.relmove_mentions.specs.Written.{LeadsFromDirectory, LeadsFromTop}
-use Rattle.relmove_mentions.proofs.OldNamesLemmas.{Finds-second, StandsFor-last_two}
+use Rattle.relmove_mentions.proofs.OldNamesLemmas.{Finds-second, StandsFor-last, StandsFor-last_two}
 use Rattle.relmove_mentions.proofs.WrittenLemmas.{Finds-text}
 use Rattle.relmove_mentions.proofs.old_names.OldNames.find_text.Goals as goal
+
+pub returns-then-not-may_have_last : goal.returns-then-not-may_have_last
+returns-then-not-may_have_last c = λ olds has old is_old (some, stands).
+    let is_text : path_text c.new-path.result ≡ c.args.text.now = c.new-path.ensures ∙ c.in-Ok.ensures.cases.0 in
+    let last = StandsFor-last olds c.args.self.now c.args.searched.file c.args.text.now c.in-Some.last.now old has is_old
+    (rw is_text at (sym c.in-Some.ensures.text)) stands in
+    true≢false (sym last.ending ∙ sym c.may_have_last.ensures ∙ c.if-not-may_have_last.true)
 
 pub returns-then-not-may_have_two : goal.returns-then-not-may_have_two
 returns-then-not-may_have_two c = λ olds has old is_old (some, stands).
