@@ -16,7 +16,7 @@ import tempfile
 import time
 
 from common import build_library, told
-from journals import BACK, stage_of
+from journals import stage_of
 from sites import taken
 from trees import JOURNAL, LONGEST, Done, Fault, difference, move_words, tree_of, without_left, write_site
 
@@ -207,12 +207,11 @@ class Failing:
 
     def faults_of_end(self, ended, word):
         """The faults of the end of a run, by this word."""
-        stage = stage_of(self.top)
-        goes_back = word == "--resume" and stage in BACK
+        had_journal = stage_of(self.top) is not None
         done = self.caller.run([word, str(self.top)])
         if done.status == 2 and stage_of(self.top) == "cleaning" and word == "--undo":
             done = self.caller.run(["--resume", str(self.top)])
-        if stage is not None and done.status != (2 if goes_back else 0):
+        if done.status != 0 and had_journal:
             yield f"{word} doesn't end it: {told(done)}"
         tree = tree_of(self.top)
         wanted = {0: [self.after], 1: [self.after], 2: [self.before]}.get(ended.status, [self.before, self.after])

@@ -151,7 +151,7 @@ class Losing:
                 yield "--undo that is too late isn't refused"
             word = "--resume"
         done = run(self.program, word if stage else "--resume", top)
-        if done.status != (0 if stage and (word == "--undo" or stage not in BACK) else 2):
+        if done.status != (0 if stage else 2):
             yield f"{word} from {stage}: {told(done)}"
         tree, back = tree_of(top), word == "--undo" or stage in BACK
         wanted = [self.before if back else self.after] if stage else [self.before, self.after]
