@@ -910,10 +910,7 @@ fn end_run<R: Machine, O: Write, E: Write>(
         },
     };
     match &ended {
-        Ok(ended) => {
-            let status = end(ended, root, out, errors);
-            status_after(ended, direction, status)
-        }
+        Ok(ended) => end(ended, root, out, errors),
         Err(fault) => refuse(root, fault, errors),
     }
 }
@@ -967,15 +964,6 @@ fn end<O: Write, E: Write>(ended: &Ended, root: &str, out: &mut O, errors: &mut 
     };
     let _ = out.flush();
     status_of(ended)
-}
-
-// The status of a call that ended a run, if that's this one for the run. A call to go on that took the run back didn't do what
-// the run was to do.
-fn status_after(ended: &Ended, direction: Direction, status: Status) -> Status {
-    match (ended, direction) {
-        (Ended::TakenBack { .. }, Direction::Resume) if status == Status::Kept => Status::Refused,
-        _ => status,
-    }
 }
 
 // Whether a run didn't end as it was to.

@@ -74,8 +74,7 @@ run is kept, and printed.
 Exit status: 0 if all is done, 1 if a link is left that led to a file, or may have, or if a page isn't UTF-8 or has a
 <base href>, or if an old path is written outside the links that are read, or if a symbolic link moves or leads to what
 moves, or if a run left something to look at, such as a text that was changed during the run (with --check: if a link is
-dead), 2 if the call was wrong or failed and nothing was changed, or if --resume went back, 3 if a run stopped in the
-middle.
+dead), 2 if the call was wrong or failed and nothing was changed, 3 if a run stopped in the middle.
 ";
 
 /// Prints a dead link: page, line, column, target and why it is dead.
