@@ -69,9 +69,9 @@ impl<'p> OldNames<'p> {
     /// on across it.
     ///
     /// Time is linear in the text. Where a path with such bytes may be written, it grows with the square of their greatest
-    /// number. Allocates the list of mentions, and an entry for each directory and each top. For a span with a percent sign it allocates at most the decoded bytes, and for a span
-    /// that ends in the last name of a name at most what `join_normalized` does, for each directory and each top twice.
-    /// Fails only if an allocation fails.
+    /// number. Allocates the list of mentions, and an entry for each directory and each top. For a span with a percent sign it
+    /// allocates at most the decoded bytes, and for a span whose last name may end as that of a name does, by the hash of its
+    /// end, at most what `join_normalized` does, for each directory and each top twice. Fails only if an allocation fails.
     ///
     /// ```
     /// let paths = [NormalPath::of(alloc, RelativePath::new("my docs/a.md"))?];
