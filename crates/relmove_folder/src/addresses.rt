@@ -1,16 +1,17 @@
 //! Where links lead on a site that shows a page `a.md` as `a/`: from the addresses of pages.
 use crate::moving_tree::MovingTree;
-use crate::pages_as::{PagesAs, shown_page};
+use crate::pages_as::{PagesAs, ends_in_dots, shown_page};
 use crate::tree::{EntryKind, Page, Tree};
 use relative_path::{RelativePath, RelativePathBuf};
 use relative_path_links::{Change, Edit, SiteRoot};
 use relative_path_places::{NormalPath, directory};
+use relmove_journal::join;
 use relmove_mentions::{INDEX_NAMES, is_index_page, is_page};
 use std::alloc::{AllocError, Global};
 use target_paths::TargetReading;
 
-// The path of what a site shows where a path leads from the address of a page, if the path has a slash at its end. `None` if
-// nothing is there.
+// The path of what a site shows where a path leads from the address of a page, if the path has a slash at its end, or ends in
+// `.` or `..`. `None` if nothing is there.
 pub(crate) fn shown_from(
     alloc: Global,
     tree: &Tree,
@@ -23,13 +24,13 @@ pub(crate) fn shown_from(
     }
 }
 
-// Where a path leads from the address of a page, if it has a slash at its end.
+// Where a path leads from the address of a page, if it has a slash at its end, or ends in `.` or `..`.
 fn place_from(
     alloc: Global,
     page: RelativePath<'_>,
     path: &str,
 ) -> Result<Option<RelativePathBuf>, AllocError> {
-    if !path.ends_with('/') {
+    if !(path.ends_with('/') || path == "." || path == ".." || ends_in_dots(path)) {
         return Ok(None);
     }
     let place = address_of(page).join_normalized(alloc, RelativePath::new(path))?;
@@ -68,7 +69,7 @@ pub(crate) struct MovedPage<'a> {
 pub(crate) enum FromAddress {
     // It leads from the page's directory, from the site's root, or to nothing.
     No,
-    // It leads to the same as before the moves.
+    // It leads to the same as before the moves. An index page has the file name that it had.
     Kept,
     // It no longer leads to what is at this path. If that doesn't move, and the page doesn't, the move with this number gives
     // the target another text.
@@ -98,11 +99,13 @@ pub(crate) fn from_address(
         Change::Kept | Change::Left(_) => text.unwrap_or(""),
     };
     let after = place_of(alloc, moved.new.as_relative_path(), edit, new)?;
-    let right = moving
-        .moves
-        .path_after(alloc, RelativePath::new(shown.as_str()))?;
+    let page = RelativePath::new(shown.as_str());
+    let right = moving.moves.path_after(alloc, page)?;
+    let right = right.as_relative_path();
+    // Not every site takes an `index.md` for its directory that takes a `README.md` for it.
+    let keeps_name = !is_index_page(page) || page.file_name() == right.file_name();
     Ok(match after {
-        Some(after) if after.as_relative_path() == address_of(right.as_relative_path()) => {
+        Some(after) if keeps_name && after.as_relative_path() == address_of(right) => {
             FromAddress::Kept
         }
         _ => FromAddress::Lost(shown, number_of(alloc, moving, edit)?),
@@ -141,6 +144,9 @@ fn place_of(
 // The path of what a site shows at an address: a directory's index page, or the directory, or a page. `None` if nothing is
 // there.
 fn shown_at(alloc: Global, tree: &Tree, address: &str) -> Result<Option<String>, AllocError> {
+    if address.is_empty() {
+        return index_in(alloc, tree, address);
+    }
     if let Some(EntryKind::Directory) = tree.entries.get(address) {
         let index = index_in(alloc, tree, address)?;
         return Ok(Some(match index {
@@ -157,7 +163,7 @@ fn shown_at(alloc: Global, tree: &Tree, address: &str) -> Result<Option<String>,
 // The index page of a directory, if it has one.
 fn index_in(alloc: Global, tree: &Tree, directory: &str) -> Result<Option<String>, AllocError> {
     for name in &INDEX_NAMES {
-        let index = format!(in alloc; "{directory}/{name}")?;
+        let index = join(alloc, directory, name)?;
         if let Some(EntryKind::File) = tree.entries.get(index.as_str()) {
             return Ok(Some(index));
         }

@@ -122,7 +122,7 @@ impl Search<'_, '_, '_> {
             page,
             new: &new.path,
         };
-        let targets = PageTargets::of(alloc, self.moving, moved, &new.edits)?;
+        let targets = PageTargets::of(alloc, self.moving, self.tops, moved, &new.edits)?;
         self.add_text(
             alloc,
             page.path.as_str(),

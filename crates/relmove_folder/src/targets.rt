@@ -2,6 +2,7 @@
 use crate::addresses::{FromAddress, MovedPage, from_address};
 use crate::moving_tree::MovingTree;
 use crate::presence::{Presence, presence_at};
+use crate::tree::Page;
 use relative_path::RelativePath;
 use relative_path_links::{Change, Edit};
 use relmove_mentions::TextSpan;
@@ -12,7 +13,8 @@ use std::alloc::{AllocError, Global};
 pub struct PageTargets<'e> {
     /// The spans of those that are read, in order.
     pub read: Vec<TextSpan>,
-    /// Those that no longer lead to what is at an old path: to a directory whose index page leaves, or from a page's address.
+    /// Those that no longer lead to what is at an old path: to a directory or a top whose index page leaves, or from a page's
+    /// address.
     pub lost: Vec<LostTarget>,
     /// Those that lead to nothing, and get new texts, in order.
     pub rewritten: Vec<Rewritten<'e>>,
@@ -32,12 +34,16 @@ impl<'e> PageTargets<'e> {
     pub fn of(
         alloc: Global,
         moving: MovingTree<'_, '_>,
+        tops: &[RelativePath<'_>],
         moved: MovedPage<'_>,
         edits: &'e [Edit],
     ) -> Result<PageTargets<'e>, AllocError> {
         let mut targets = PageTargets::new(alloc);
         for edit in edits {
             match from_address(alloc, moving, moved, edit)? {
+                FromAddress::No if is_slash_alone(moved.page, edit) => {
+                    targets.add_slash(alloc, moving, tops, edit)?
+                }
                 FromAddress::No => targets.add(alloc, moving, edit)?,
                 FromAddress::Kept => targets.read.push(span_of(edit))?,
                 FromAddress::Lost(old, number) => targets.add_lost(edit, old, number)?,
@@ -59,6 +65,22 @@ impl<'e> PageTargets<'e> {
             number,
         })?;
         self.read.push(span_of(edit))?;
+        Ok(())
+    }
+
+    // Adds a target that is a slash alone, and isn't read, if the index page of a top leaves it.
+    fn add_slash(
+        &mut self,
+        alloc: Global,
+        moving: MovingTree<'_, '_>,
+        tops: &[RelativePath<'_>],
+        edit: &Edit,
+    ) -> Result<(), AllocError> {
+        for top in tops {
+            if let Some(old) = moving.left_index(alloc, *top)? {
+                return self.add_lost(edit, old, None);
+            }
+        }
         Ok(())
     }
 
@@ -132,6 +154,17 @@ impl<'e> PageTargets<'e> {
             }
             _ => None,
         }
+    }
+}
+
+// Whether the target of an edit is a slash, perhaps with a query or a fragment, and isn't read, since no site's root is known.
+fn is_slash_alone(page: &Page, edit: &Edit) -> bool {
+    let text = page.text.get(edit.target.start..edit.target.end);
+    match text.unwrap_or("").strip_prefix('/') {
+        Some(rest) => {
+            edit.file.is_none() && (rest.is_empty() || rest.starts_with('?') || rest.starts_with('#'))
+        }
+        None => false,
     }
 }
 
