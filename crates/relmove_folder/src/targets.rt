@@ -162,7 +162,8 @@ fn is_slash_alone(page: &Page, edit: &Edit) -> bool {
     let text = page.text.get(edit.target.start..edit.target.end);
     match text.unwrap_or("").strip_prefix('/') {
         Some(rest) => {
-            edit.file.is_none() && (rest.is_empty() || rest.starts_with('?') || rest.starts_with('#'))
+            edit.file.is_none()
+                && (rest.is_empty() || rest.starts_with('?') || rest.starts_with('#'))
         }
         None => false,
     }

@@ -206,6 +206,14 @@ ends-later set text span start end is later order none = elim (cases_lt end span
       (ends-from set text span start is later)) ∙ none))
 ]
 
+-- one that ends after an offset doesn't end before the next one at which a path can end
+pub ends-after_word : (set : Hashes) (text : List ℕ) (span : TextSpan) (start end : ℕ) → IsCandidate set text span
+    → start < span.end → ((at : ℕ) → start < at → at < end → is_bounded_after text at ≡ false) → end ≤ span.end
+ends-after_word set text span start end is later inside = elim (cases_lt span.end end) [
+  | inl less ↦ absurd (true≢false (sym is.bounded.after ∙ inside span.end later less))
+  | inr more ↦ more
+]
+
 -- ---- how many bytes that don't go on a path a span has at most
 
 -- it doesn't begin before bytes of which it could have all but one

@@ -1,15 +1,15 @@
 -- Spans in order, and the bytes of a span that aren't path bytes.
 use Rattle.std.proofs.Common.{◌≡◌, ◌==◌, ◌++◌, inl, inr, ℕ, zero, suc, cond, ◌+◌, ◌-◌, ◌<◌, ◌≤◌, Bool, true, false, not, ◌||◌, ◌&&◌, List, [], ◌∷◌, length, take, drop, get_or, refl, sym, ap, ◌∙◌, subst, arith, length-drop, drop-cons}
 use Rattle.std.specs.Prelude.{nat_le}
-use Rattle.std.specs.List.{list_all}
-use Rattle.std.proofs.lemmas.Bool.{cases_lt, eqb-true, le-leb, or_cases}
+use Rattle.std.specs.List.{fold, list_all}
+use Rattle.std.proofs.lemmas.Bool.{and_parts, cases_lt, eqb-true, le-leb, lt-leb, not-true, or_cases}
 use Rattle.std.proofs.lemmas.List.{drop-drop, get_or-drop, take-take}
 use Rattle.std.proofs.lemmas.List.Sums.{fold-append, fold_more, sum_by-append, sum_by-cons, sum_by-take-le, sum_by_more}
 use Rattle.std.proofs.Math.ListN.{drop_of_length-le}
 use Rattle.std.proofs.Math.Seq.{take-add}
 use Rattle.relmove_mentions.proofs.EndingsLemmas.{fold-ended, next-other, other-not_slash}
 use Rattle.relmove_mentions.specs.Endings.{ending_of, has_name, next_ending, no_ending}
-use Rattle.relmove_mentions.specs.Spans.{ArePassed, FollowFrom, is_apart, is_bounded_before, is_other_byte, is_path_byte, others_in}
+use Rattle.relmove_mentions.specs.Spans.{ArePassed, FollowFrom, is_apart, is_bounded_after, is_bounded_at, is_bounded_before, is_other_byte, is_path_byte, others_in}
 use Rattle.relmove_mentions.specs.declared.endings.Ending.{Ending}
 use Rattle.relmove_mentions.specs.declared.text_span.TextSpan.{TextSpan}
 
@@ -144,18 +144,40 @@ others_in-back text first end left more most some order within count is =
 
 -- ---- what the bytes of a span end in
 
+-- after an ending, with one more byte
+pub fold-next : (e : Ending) (text : List ℕ) (start end : ℕ) → start ≤ end → end < length text
+    → fold next_ending e (take (end + 1 - start) (drop start text))
+    ≡ next_ending (fold next_ending e (take (end - start) (drop start text))) (get_or text end 0)
+fold-next e text start end order within =
+    let len : end + 1 - start ≡ end - start + 1 = omega (arith, order) in
+    let at : start + (end - start) ≡ end = omega (arith, order) in
+    let inside : end - start < length (drop start text) = omega (arith, order, within, length-drop start text) in
+    ap (λ n. fold next_ending e (take n (drop start text))) len
+    ∙ fold_more next_ending e (drop start text) (end - start) 0 inside
+    ∙ ap (next_ending (fold next_ending e (take (end - start) (drop start text))))
+    (get_or-drop start text (end - start) 0 ∙ ap (λ k. get_or text k 0) at)
+
+-- with one byte
+pub fold-first : (e : Ending) (text : List ℕ) (start : ℕ) → start < length text
+    → fold next_ending e (take (start + 1 - start) (drop start text)) ≡ next_ending e (get_or text start 0)
+fold-first e text start within =
+    let none : start - start ≡ 0 = omega arith in
+    fold-next e text start start (omega arith) within
+    ∙ ap (λ n. next_ending (fold next_ending e (take n (drop start text))) (get_or text start 0)) none
+
 -- with one more byte
 pub ending_of-next : (text : List ℕ) (start end : ℕ) → start ≤ end → end < length text
     → ending_of (take (end + 1 - start) (drop start text))
     ≡ next_ending (ending_of (take (end - start) (drop start text))) (get_or text end 0)
-ending_of-next text start end order within =
-    let len : end + 1 - start ≡ end - start + 1 = omega (arith, order) in
-    let at : start + (end - start) ≡ end = omega (arith, order) in
-    let inside : end - start < length (drop start text) = omega (arith, order, within, length-drop start text) in
-    ap (λ n. ending_of (take n (drop start text))) len
-    ∙ fold_more next_ending no_ending (drop start text) (end - start) 0 inside
-    ∙ ap (next_ending (ending_of (take (end - start) (drop start text))))
-    (get_or-drop start text (end - start) 0 ∙ ap (λ k. get_or text k 0) at)
+ending_of-next text start end order within = fold-next no_ending text start end order within
+
+-- with all bytes up to a later offset
+pub ending_of-later : (text : List ℕ) (start mid end : ℕ) → start ≤ mid → mid ≤ end
+    → ending_of (take (end - start) (drop start text))
+    ≡ fold next_ending (ending_of (take (mid - start) (drop start text))) (take (end - mid) (drop mid text))
+ending_of-later text start mid end order within =
+    ap ending_of (take-after text start mid end order within)
+    ∙ fold-append next_ending no_ending (take (mid - start) (drop start text)) (take (end - mid) (drop mid text))
 
 -- no byte ends in nothing
 pub ending_of-none : (text : List ℕ) (start : ℕ) → ending_of (take (start - start) (drop start text)) ≡ no_ending
@@ -180,11 +202,20 @@ ending_of-after text start mid end order within inside bounded named = elim (cas
         let ended : (ending_of (take (mid - start) (drop start text))).ended ≡ true =
         ap (λ (e : Ending). e.ended) before
         ∙ next-other _ (get_or text (mid - 1) 0) (other-not_slash (get_or text (mid - 1) 0) other) other in
-        ap ending_of (take-after text start mid end order within)
-        ∙ fold-append next_ending no_ending (take (mid - start) (drop start text)) (take (end - mid) (drop mid text))
+        ending_of-later text start mid end order within
         ∙ fold-ended (take (end - mid) (drop mid text)) (ending_of (take (mid - start) (drop start text))) no_ending ended refl named
   ]
 ]
+
+-- no path ends before a byte that goes on one and is no full stop
+pub is_bounded_after-word : (text : List ℕ) (end : ℕ) → end < length text
+    → (is_path_byte (get_or text end 0) && not (get_or text end 0 == 46)) ≡ true → is_bounded_after text end ≡ false
+is_bounded_after-word text end within is =
+    let (path, plain) = and_parts (is_path_byte (get_or text end 0)) (not (get_or text end 0 == 46)) is in
+    ap (λ b. (b || not (is_path_byte (get_or text end 0))) || (get_or text end 0 == 46 && is_bounded_at text (end + 1)))
+    (lt-leb (length text) end within)
+    ∙ ap (λ b. not b || (get_or text end 0 == 46 && is_bounded_at text (end + 1))) path
+    ∙ ap (λ b. b && is_bounded_at text (end + 1)) (not-true (get_or text end 0 == 46) plain)
 
 -- ---- the spans after so many
 

@@ -1,14 +1,23 @@
 //! What a text ends in.
-ghost use Rattle.std.specs.Prelude.{◌≡◌, false};
+ghost use Rattle.std.specs.Prelude.{◌≡◌, ◌≤◌, ◌<◌, ◌-◌, ℕ, drop, false, length, take};
+ghost use Rattle.std.specs.List.{fold};
 ghost use Rattle.relative_path.specs.Steps.{is_slash};
 ghost use Rattle.relmove_mentions.specs.Endings.{ending_of, may_end, next_ending, no_ending};
+ghost use Rattle.relmove_mentions.specs.Spans.{is_bounded_after};
 
 use crate::hashes::Hashes;
 use crate::name_hashes::hash_with;
-use crate::text_span::is_path_byte;
+use crate::text_span::{is_path_byte, is_word_byte};
 
 // The hash of a full stop.
 const DOT_HASH: u64 = 46;
+
+// A text up to an offset, and what it ends in there.
+#[derive(Clone, Copy)]
+pub(crate) struct EndingAt {
+    pub(crate) ending: Ending,
+    pub(crate) end: usize,
+}
 
 // What a text ends in, apart from slashes: the path bytes at the end of its last name, or one byte that isn't a path byte.
 #[derive(Clone, Copy)]
@@ -70,6 +79,25 @@ impl Ending {
     {
         self.encoded || self.hash == DOT_HASH || endings.may_have(self.hash)
     }
+}
+
+// Returns what a text ends in after one that ends so, with its bytes from an offset on: with the first of them, and up to the
+// next offset at which no path goes on, or a full stop comes.
+#[inline]
+pub(crate) fn with_word(before: Ending, text: &[u8], start: usize) -> EndingAt
+    requires { start < length text.now }
+    ensures after { start < result.end }
+    ensures within { result.end ≤ length text.now }
+    ensures ending { result.ending ≡ fold next_ending before (take (result.end - start) (drop start text.now)) }
+    ensures inside { (at : ℕ) → start < at → at < result.end → is_bounded_after text.now at ≡ false }
+{
+    let mut ending = before.then(text[start]);
+    let mut end = start + 1;
+    while end < text.len() && is_word_byte(text[end]) {
+        ending = ending.then(text[end]);
+        end += 1;
+    }
+    EndingAt { ending, end }
 }
 
 // Returns what a text ends in.

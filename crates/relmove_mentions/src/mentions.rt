@@ -35,7 +35,7 @@ ghost use Rattle.relmove_mentions.specs.Written.{
 ghost use Rattle.relmove_mentions.specs.declared.text_span.TextSpan.{TextSpan};
 
 use crate::bases::Base;
-use crate::endings::Ending;
+use crate::endings::{Ending, with_word};
 use crate::file_text::FileText;
 use crate::hashes::Hashes;
 use crate::name_hashes::{last_two_hash, name_alone, two_hash};
@@ -500,8 +500,9 @@ fn next_end(endings: &Hashes, text: &[u8], start: usize) -> Option<usize>
     let mut ending = Ending::none();
     let mut end = start;
     while end < text.len() {
-        ending = ending.then(text[end]);
-        end += 1;
+        let word = with_word(ending, text, end);
+        ending = word.ending;
+        end = word.end;
         if can_end(endings, ending, text, end) {
             return Some(end);
         }

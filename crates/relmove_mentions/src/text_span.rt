@@ -1,5 +1,5 @@
 //! Spans of a text, and where one can begin and end.
-ghost use Rattle.std.specs.Prelude.{◌≡◌, ◌≤◌, ◌↔◌, IsTrue, length};
+ghost use Rattle.std.specs.Prelude.{◌≡◌, ◌≤◌, ◌↔◌, ◌==◌, ◌&&◌, IsTrue, length, not};
 ghost use Rattle.relmove_mentions.specs.Spans.{
   FollowFrom,
   is_apart,
@@ -82,6 +82,14 @@ pub(crate) fn is_path_byte(byte: u8) -> bool
     ensures { result ≡ is_path_byte byte }
 {
     PATH_BYTES[byte as usize]
+}
+
+// Returns whether a path goes on with a byte that is no full stop.
+#[inline]
+pub(crate) fn is_word_byte(byte: u8) -> bool
+    ensures { result ≡ (is_path_byte byte && not (byte == 46)) }
+{
+    is_path_byte(byte) && byte != b'.'
 }
 
 // Returns how many bytes of a text aren't path bytes.
