@@ -1,22 +1,24 @@
 //! Where the old paths of a run are written, apart from links that are read.
 use crate::addresses::MovedPage;
+use crate::bases::Tops;
 use crate::extensions::is_searched_file;
 use crate::moved_names::{Names, SearchedPaths, relative_paths};
-use crate::moving_tree::MovingTree;
+use crate::moving_tree::{MovingTree, numbers_of};
 use crate::pages_as::{PagesAs, ShownMove};
 use crate::places::MentionPlaces;
 use crate::search::Search;
 use crate::seen::find;
 use crate::targets::PageTargets;
 use crate::tree::{
-    EntryKind, LONGEST_PAGE, Page, TOO_LONG, Tree, is_at_or_below, is_left_out, normal_paths,
+    EntryKind, LONGEST_PAGE, TOO_LONG, Tree, is_at_or_below, is_left_out, normal_paths,
 };
 use relative_path::RelativePath;
-use relative_path_links::MovedSitePage;
+use relative_path_links::{Edit, MovedSitePage};
 use relative_path_moves::TreeMoves;
 use relmove_store::{RunFault, Store, SystemCall, at};
 use std::alloc::{AllocError, Global};
 use std::collections::BTreeSet;
+use std::mem;
 
 /// Which files are searched, and how they are named.
 #[derive(Clone, Copy)]
@@ -37,48 +39,89 @@ pub struct SearchOptions<'a> {
 /// certain extensions. `pages` has the edits of the tree's pages, in their order. What leads to the new path after the
 /// moves, with the file name that it had, isn't among them. Files that aren't UTF-8 are passed over.
 ///
-/// Reads the files that aren't pages, and has one of them in memory at a time. Allocates the names of the old paths and of
-/// the new ones, and the places.
+/// Of the edits only those stay that have a new text: the others are most of the memory of a plan, and what the search has to
+/// know of them is known before it begins. Reads the files that aren't pages, and has one of them in memory at a time.
+/// Allocates what it knows of the targets, the names of the old paths and of the new ones, and the places.
 pub fn mentions_of<S: Store>(
     store: &mut S,
     tree: &Tree,
     moves: &TreeMoves<'_>,
-    pages: &[MovedSitePage],
+    pages: &mut [MovedSitePage],
     options: SearchOptions<'_>,
 ) -> Result<MentionPlaces, RunFault> {
-    let paths = SearchedPaths::of(store.alloc(), tree, moves, options.site_root)?;
+    let alloc = store.alloc();
+    let numbers = numbers_of(alloc, moves.moves())?;
+    let tops = Tops::of(alloc, moves, options.site_root)?;
     let moving = MovingTree {
         tree,
         moves,
         made: options.made,
-        numbers: &paths.numbers,
+        numbers: &numbers,
         shown: options.shown,
         pages_as: options.pages_as,
     };
-    search_all(store, moving, &paths, pages, options.excluded)
+    let targets = targets_of(alloc, moving, &tops, pages)?;
+    search_all(store, moving, &tops, &targets, options.excluded)
+}
+
+// The targets of pages that their search has to know. The edits without a new text are gone then.
+fn targets_of(
+    alloc: Global,
+    moving: MovingTree<'_, '_>,
+    tops: &Tops,
+    news: &mut [MovedSitePage],
+) -> Result<Vec<PageTargets>, AllocError> {
+    let tops = relative_paths(alloc, &tops.before)?;
+    let mut targets = Vec::with_capacity(alloc, news.len())?;
+    let mut number = 0usize;
+    for new in news.iter_mut() {
+        if let Some(page) = moving.tree.pages.get(number) {
+            let moved = MovedPage {
+                page,
+                new: &new.path,
+            };
+            targets.push(PageTargets::of(alloc, moving, &tops, moved, &new.edits)?)?;
+        }
+        let edits = mem::replace(&mut new.edits, Vec::new(alloc));
+        new.edits = changed_edits(alloc, edits)?;
+        number = number.saturating_add(1);
+    }
+    Ok(targets)
+}
+
+// Those of some edits that have a new text.
+fn changed_edits(alloc: Global, edits: Vec<Edit>) -> Result<Vec<Edit>, AllocError> {
+    let mut changed = Vec::new(alloc);
+    for edit in edits {
+        if edit.is_new() {
+            changed.push(edit)?;
+        }
+    }
+    Ok(changed)
 }
 
 // Finds where old paths are written.
-fn search_all<'a, S: Store>(
+fn search_all<S: Store>(
     store: &mut S,
-    moving: MovingTree<'a, '_>,
-    paths: &'a SearchedPaths,
-    pages: &[MovedSitePage],
+    moving: MovingTree<'_, '_>,
+    tops: &Tops,
+    targets: &[PageTargets],
     excluded: &[&str],
 ) -> Result<MentionPlaces, RunFault> {
     let alloc = store.alloc();
+    let paths = SearchedPaths::of(alloc, moving)?;
     let moved = Names::of(alloc, &paths.moved)?;
     let all = Names::of(alloc, &paths.all)?;
-    let tops = relative_paths(alloc, &paths.tops.before)?;
-    let tops_after = relative_paths(alloc, &paths.tops.after)?;
+    let before = relative_paths(alloc, &tops.before)?;
+    let after = relative_paths(alloc, &tops.after)?;
     let search = Search {
         moving,
         moved: &moved,
         all: &all,
-        tops: &tops,
-        tops_after: &tops_after,
+        tops: &before,
+        tops_after: &after,
     };
-    search.all_places(store, pages, excluded)
+    search.all_places(store, targets, excluded)
 }
 
 impl Search<'_, '_, '_> {
@@ -86,12 +129,12 @@ impl Search<'_, '_, '_> {
     fn all_places<S: Store>(
         &self,
         store: &mut S,
-        news: &[MovedSitePage],
+        targets: &[PageTargets],
         excluded: &[&str],
     ) -> Result<MentionPlaces, RunFault> {
         let alloc = store.alloc();
         let mut found = MentionPlaces::new(alloc, self.moving.moves.moves())?;
-        self.add_pages(alloc, news, &mut found)?;
+        self.add_pages(alloc, targets, &mut found)?;
         let excluded = normal_paths(alloc, excluded)?;
         self.add_files(store, &excluded, &mut found)?;
         Ok(found)
@@ -101,35 +144,14 @@ impl Search<'_, '_, '_> {
     fn add_pages(
         &self,
         alloc: Global,
-        news: &[MovedSitePage],
+        targets: &[PageTargets],
         found: &mut MentionPlaces,
     ) -> Result<(), AllocError> {
-        for (page, new) in self.moving.tree.pages.iter().zip(news) {
-            self.add_page(alloc, page, new, found)?;
+        for (page, targets) in self.moving.tree.pages.iter().zip(targets) {
+            let (path, text) = (page.path.as_str(), page.text.as_str());
+            self.add_text(alloc, path, text, targets, found)?;
         }
         Ok(())
-    }
-
-    // Adds the places in a page.
-    fn add_page(
-        &self,
-        alloc: Global,
-        page: &Page,
-        new: &MovedSitePage,
-        found: &mut MentionPlaces,
-    ) -> Result<(), AllocError> {
-        let moved = MovedPage {
-            page,
-            new: &new.path,
-        };
-        let targets = PageTargets::of(alloc, self.moving, self.tops, moved, &new.edits)?;
-        self.add_text(
-            alloc,
-            page.path.as_str(),
-            page.text.as_str(),
-            &targets,
-            found,
-        )
     }
 
     // Adds the places in other files, but for those at and below excluded paths.

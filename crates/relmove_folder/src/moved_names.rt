@@ -1,46 +1,29 @@
 //! The names of what moves in a tree, before the moves and after them.
-use crate::bases::Tops;
 use crate::extensions::is_searched;
-use crate::moving_tree::{number_of, numbers_of};
+use crate::moving_tree::MovingTree;
 use crate::tree::Tree;
 use relative_path::RelativePath;
 use relative_path_moves::TreeMoves;
 use relative_path_places::NormalPath;
 use relmove_mentions::OldNames;
 use std::alloc::{AllocError, Global};
-use std::collections::BTreeMap;
 
 /// The paths for which a tree is searched.
 #[derive(Drop)]
 pub struct SearchedPaths {
-    /// The number of each move, by its old path.
-    pub numbers: BTreeMap<String, usize>,
     /// The entries that move.
     pub moved: PathPairs,
     /// All entries, if a file moves that is searched: what it writes of files that stay may no longer lead to them.
     pub all: PathPairs,
-    /// The tops of the moves.
-    pub tops: Tops,
 }
 
 impl SearchedPaths {
-    /// What is searched for in a tree, which may have a site with a known root. Allocates the paths.
-    pub fn of(
-        alloc: Global,
-        tree: &Tree,
-        moves: &TreeMoves<'_>,
-        site_root: Option<&str>,
-    ) -> Result<SearchedPaths, AllocError> {
-        let numbers = numbers_of(alloc, moves.moves())?;
-        let moved = PathPairs::of(alloc, moves, moved_paths(alloc, tree, &numbers)?)?;
+    /// What is searched for in a tree that moves. Allocates the paths.
+    pub fn of(alloc: Global, moving: MovingTree<'_, '_>) -> Result<SearchedPaths, AllocError> {
+        let MovingTree { tree, moves, .. } = moving;
+        let moved = PathPairs::of(alloc, moves, moved_paths(alloc, moving)?)?;
         let all = PathPairs::of(alloc, moves, paths_for_moved(alloc, tree, &moved)?)?;
-        let tops = Tops::of(alloc, moves, site_root)?;
-        Ok(SearchedPaths {
-            numbers,
-            moved,
-            all,
-            tops,
-        })
+        Ok(SearchedPaths { moved, all })
     }
 }
 
@@ -69,14 +52,10 @@ impl PathPairs {
 }
 
 // The paths of the entries that move.
-fn moved_paths(
-    alloc: Global,
-    tree: &Tree,
-    numbers: &BTreeMap<String, usize>,
-) -> Result<Vec<NormalPath>, AllocError> {
+fn moved_paths(alloc: Global, moving: MovingTree<'_, '_>) -> Result<Vec<NormalPath>, AllocError> {
     let mut olds = Vec::new(alloc);
-    for path in tree.entries.keys() {
-        if number_of(numbers, path.as_str()).is_some() {
+    for path in moving.tree.entries.keys() {
+        if moving.number_of(path.as_str()).is_some() {
             olds.push(NormalPath::of(alloc, RelativePath::new(path.as_str()))?)?;
         }
     }

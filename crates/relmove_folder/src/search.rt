@@ -34,7 +34,7 @@ impl<'p> Search<'_, '_, 'p> {
         alloc: Global,
         path: &'t str,
         text: &'t str,
-        targets: &PageTargets<'_>,
+        targets: &PageTargets,
         found: &mut MentionPlaces,
     ) -> Result<(), AllocError> {
         let path = RelativePath::new(path);
@@ -55,7 +55,7 @@ impl<'p> Search<'_, '_, 'p> {
     fn add_lost(
         &self,
         alloc: Global,
-        targets: &PageTargets<'_>,
+        targets: &PageTargets,
         places: &mut Vec<OldPathAt>,
     ) -> Result<(), AllocError> {
         for target in &targets.lost {
@@ -74,7 +74,7 @@ impl<'p> Search<'_, '_, 'p> {
         &self,
         alloc: Global,
         file: SearchedFile<'_, '_>,
-        targets: &PageTargets<'_>,
+        targets: &PageTargets,
         places: &mut Vec<OldPathAt>,
     ) -> Result<(), AllocError> {
         let bases = bases_of(alloc, file.path, file.new, self.tops, self.tops_after)?;
@@ -103,7 +103,7 @@ impl<'p> Search<'_, '_, 'p> {
         alloc: Global,
         file: SearchedFile<'_, '_>,
         bases: &[Base<'_>],
-        targets: &PageTargets<'_>,
+        targets: &PageTargets,
         mention: Mention<'_>,
         places: &mut Vec<OldPathAt>,
     ) -> Result<(), AllocError> {
@@ -126,7 +126,7 @@ impl<'p> Search<'_, '_, 'p> {
         alloc: Global,
         file: SearchedFile<'_, '_>,
         bases: &[Base<'_>],
-        targets: &PageTargets<'_>,
+        targets: &PageTargets,
         mention: Mention<'_>,
     ) -> Result<Option<String>, AllocError> {
         if let Some(place) = self.file_at(alloc, file, mention)? {
@@ -192,10 +192,11 @@ impl<'p> Search<'_, '_, 'p> {
         &self,
         alloc: Global,
         names: &Names<'p>,
-        target: &Rewritten<'_>,
+        target: &Rewritten,
         mention: Mention<'_>,
     ) -> Result<bool, AllocError> {
-        let moved = self.moving.moves.path_after(alloc, target.file)?;
+        let file = RelativePath::new(target.file.as_str());
+        let moved = self.moving.moves.path_after(alloc, file)?;
         let text = moved.as_relative_path().as_str();
         let after = path_from(alloc, &names.after, RelativePath::new(""), false, text)?;
         self.is_moved_to(alloc, mention.path, after)

@@ -10,19 +10,19 @@ use std::alloc::{AllocError, Global};
 
 /// The targets of a page that its search has to know.
 #[derive(Drop)]
-pub struct PageTargets<'e> {
+pub struct PageTargets {
     /// The spans of those that are read, in order.
     pub read: Vec<TextSpan>,
     /// Those that no longer lead to what is at an old path: to a directory or a top whose index page leaves, or from a page's
     /// address.
     pub lost: Vec<LostTarget>,
     /// Those that lead to nothing, and get new texts, in order.
-    pub rewritten: Vec<Rewritten<'e>>,
+    pub rewritten: Vec<Rewritten>,
 }
 
-impl<'e> PageTargets<'e> {
+impl PageTargets {
     /// No targets. Allocates nothing.
-    pub fn new(alloc: Global) -> PageTargets<'e> {
+    pub fn new(alloc: Global) -> PageTargets {
         PageTargets {
             read: Vec::new(alloc),
             lost: Vec::new(alloc),
@@ -36,8 +36,8 @@ impl<'e> PageTargets<'e> {
         moving: MovingTree<'_, '_>,
         tops: &[RelativePath<'_>],
         moved: MovedPage<'_>,
-        edits: &'e [Edit],
-    ) -> Result<PageTargets<'e>, AllocError> {
+        edits: &[Edit],
+    ) -> Result<PageTargets, AllocError> {
         let mut targets = PageTargets::new(alloc);
         for edit in edits {
             match from_address(alloc, moving, moved, edit)? {
@@ -89,7 +89,7 @@ impl<'e> PageTargets<'e> {
         &mut self,
         alloc: Global,
         moving: MovingTree<'_, '_>,
-        edit: &'e Edit,
+        edit: &Edit,
     ) -> Result<(), AllocError> {
         let span = span_of(edit);
         match (&edit.file, &edit.change) {
@@ -100,11 +100,7 @@ impl<'e> PageTargets<'e> {
             }
             (Some(file), change) => {
                 let is_new = *change != Change::Kept;
-                let rewritten = Rewritten {
-                    span,
-                    file: file.as_relative_path(),
-                };
-                self.add_path(alloc, moving, rewritten, is_new)
+                self.add_path(alloc, moving, span, file.as_relative_path(), is_new)
             }
         }
     }
@@ -116,10 +112,10 @@ impl<'e> PageTargets<'e> {
         &mut self,
         alloc: Global,
         moving: MovingTree<'_, '_>,
-        target: Rewritten<'e>,
+        span: TextSpan,
+        file: RelativePath<'_>,
         is_new: bool,
     ) -> Result<(), AllocError> {
-        let Rewritten { span, file } = target;
         if let Some(old) = moving.left_index(alloc, file)? {
             self.lost.push(LostTarget {
                 start: span.start,
@@ -133,7 +129,8 @@ impl<'e> PageTargets<'e> {
             if is_new && moving.is_shown_name(file.as_str()) {
                 self.read.push(span)?;
             } else if is_new {
-                self.rewritten.push(target)?;
+                let file = String::from_str(alloc, file.as_str())?;
+                self.rewritten.push(Rewritten { span, file })?;
             }
             return Ok(());
         }
@@ -144,7 +141,7 @@ impl<'e> PageTargets<'e> {
     }
 
     /// The rewritten target that has a span. Allocates nothing.
-    pub fn rewritten_at(&self, span: TextSpan) -> Option<&Rewritten<'e>> {
+    pub fn rewritten_at(&self, span: TextSpan) -> Option<&Rewritten> {
         let number = self
             .rewritten
             .partition_point(|target| target.span.end <= span.start);
@@ -189,10 +186,10 @@ pub struct LostTarget {
 }
 
 /// A target that leads to nothing, and gets a new text.
-#[derive(Clone, Copy)]
-pub struct Rewritten<'e> {
+#[derive(Drop)]
+pub struct Rewritten {
     /// Its span.
     pub span: TextSpan,
     /// Where it leads.
-    pub file: RelativePath<'e>,
+    pub file: String,
 }

@@ -554,7 +554,7 @@ fn plan<'a, 'm, S: Store, O: Write, E: Write>(
     if options.made {
         keep_dead(store, tree, &mut moving)?;
     }
-    let (counts, status) = report(store, tree, moves, &moving, options, out, errors)?;
+    let (counts, status) = report(store, tree, moves, &mut moving, options, out, errors)?;
     Ok((moving, counts, status))
 }
 
@@ -592,7 +592,7 @@ fn report<S: Store, O: Write, E: Write>(
     store: &mut S,
     tree: &Tree,
     moves: &[(&str, &str)],
-    moving: &Moving<'_, '_>,
+    moving: &mut Moving<'_, '_>,
     options: MoveOptions<'_>,
     out: &mut O,
     errors: &mut E,
@@ -606,14 +606,15 @@ fn report<S: Store, O: Write, E: Write>(
     Ok((counts, status_of_moving(tree, moves, moving, &mentions)))
 }
 
-// Finds where the old paths of a plan are written, if the call asks for it.
-fn asked_mentions<'x, S: Store>(
+// Finds where the old paths of a plan are written, if the call asks for it. Then the edits of its pages are gone that have no
+// new text.
+fn asked_mentions<S: Store>(
     store: &mut S,
     tree: &Tree,
-    moving: &'x Moving<'_, '_>,
-    options: MoveOptions<'x>,
+    moving: &mut Moving<'_, '_>,
+    options: MoveOptions<'_>,
 ) -> Result<MentionPlaces, RunFault> {
-    let plan = &moving.plan;
+    let plan = &mut moving.plan;
     if options.quiet_mentions {
         return Ok(MentionPlaces::new(store.alloc(), plan.moves.moves())?);
     }
@@ -624,7 +625,7 @@ fn asked_mentions<'x, S: Store>(
         site_root: options.site_root,
         pages_as: options.pages_as,
     };
-    mentions_of(store, tree, &plan.moves, &plan.pages, options)
+    mentions_of(store, tree, &plan.moves, &mut plan.pages, options)
 }
 
 // The directories below the root that were read, as texts.

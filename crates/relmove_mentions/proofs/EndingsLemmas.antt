@@ -1,6 +1,6 @@
 -- What a text ends in is what its file name ends in.
 use Rattle.std.proofs.Common.{◌≡◌, ◌⊎◌, ℕ, zero, suc, cond, ◌+◌, ◌*◌, ◌<◌, ◌≤◌, Bool, true, false, ◌||◌, ◌&&◌, ◌==◌, List, [], ◌∷◌, ◌++◌, length, not, replicate, Some, None, inl, inr, refl, sym, ap, ◌∙◌, subst, true≢false, arith, bytes_eq, get_or-append-add, length-append, get_or, append_assoc}
-use Rattle.std.specs.List.{AllByRecursion, fold}
+use Rattle.std.specs.List.{AllByRecursion, fold, list_any}
 use Rattle.std.specs.Char.{digit_value, is_digit}
 use Rattle.std.specs.Prelude.{is_some}
 use Rattle.std.proofs.lemmas.Bool.{agree_below_at, and_parts, cases_Bool, cases_lt, cond-false, cond-true, eq-eqb, eqb-true, le-ltb, ltb-true, or_left, or_parts, or_right}
@@ -191,6 +191,29 @@ components-piece : (b : ℕ) (bs : List ℕ) → NoSlash (b ∷ bs) → componen
 unfolding components pieces
 components-piece b bs none =
     rw (slice_split_none is_slash (b ∷ bs) (All-from_recursion (λ x. is_slash x ≡ false) (b ∷ bs) none)) refl
+
+no_slash : (text : List ℕ) → list_any is_slash text ≡ false → NoSlash text
+no_slash [] none = tt
+no_slash (b ∷ bs) none =
+    let (plain, rest) = or_parts (is_slash b) (list_any is_slash bs) none in (plain, no_slash bs rest)
+
+-- a text without a slash that has a file name is this name
+pub components-alone : (text n : List ℕ) → list_any is_slash text ≡ false → file_name_of text ≡ Some n
+    → components text ≡ name text ∷ []
+components-alone [] n none is = absurd (none_some (sym file_name-empty ∙ is))
+components-alone (b ∷ bs) n none is =
+    piece ∙ ap (λ c. c ∷ []) (of (bytes_eq p (step_text cur)) (bytes_eq p (step_text up)) (sym (ap last_name piece) ∙ is)) where
+      p : List ℕ
+      p = b ∷ bs
+
+      piece : components p ≡ classed p ∷ []
+      piece = components-piece b bs (no_slash p none)
+
+      of : (a c : Bool) → last_name (cond a cur (cond c up (name p)) ∷ []) ≡ Some n
+          → cond a cur (cond c up (name p)) ≡ name p
+      of true c named = absurd (none_some named)
+      of false true named = absurd (none_some named)
+      of false false named = refl
 
 -- ---- the file name of a text
 

@@ -1,24 +1,34 @@
 -- When a text stands for an old path, and when bytes write one.
-use Rattle.std.proofs.Common.{◌≡◌, ◌⊎◌, ◌<◌, ℕ, Bool, not, true, false, ◌||◌, ◌==◌, List, [], ◌∷◌, Option, None, Some, IsSome, inl, inr, refl, sym, ap, ◌∙◌, subst, true≢false}
+use Rattle.std.proofs.Common.{◌≡◌, ◌⊎◌, ◌<◌, ℕ, Bool, not, true, false, ◌||◌, ◌==◌, List, [], ◌∷◌, Option, None, Some, IsSome, inl, inr, refl, sym, ap, ◌∙◌, subst, true≢false, arith, cond, length, map}
+use Rattle.std.specs.Prelude.{nat_lt}
 use Rattle.std.specs.List.{Contains, list_any}
+use Rattle.std.specs.Option.{option_map}
 use Rattle.std.specs.Str.{IsUtf8}
-use Rattle.std.proofs.lemmas.Bool.{cases_Bool, eq-eqb, eqb-false, eqb-true}
+use Rattle.std.proofs.lemmas.Bool.{cases_Bool, eq-eqb, eqb-false, eqb-true, or_left, or_parts, or_right}
 use Rattle.percent_encoding.specs.Percent.{percent_decode, percent_sign}
 use Rattle.percent_encoding.proofs.PercentLemmas.{percent_decode-nil, percent_decode_not_percent}
-use Rattle.relative_path.specs.Steps.{dot, is_slash, slash}
+use Rattle.relative_path.specs.Steps.{Step, components, dot, is_slash, name as one_name, slash}
 use Rattle.relative_path.specs.Naming.{file_name_of}
+use Rattle.relative_path.specs.RelativePath.{path_text}
+use Rattle.relative_path.specs.Unix.{has_root}
+use Rattle.relative_path.proofs.ForCallers.{kept-name, last_name-name}
 use Rattle.relative_path_places.specs.declared.normal_view.NormalView.{NormalView}
+use Rattle.relmove_mentions.specs.Bases.{base_components, base_text}
 use Rattle.relmove_mentions.specs.Endings.{ending_of, has_name, may_end}
 use Rattle.relmove_mentions.specs.Hashes.{may_have}
-use Rattle.relmove_mentions.specs.OldNames.{Finds, Has, WithOthers}
+use Rattle.relmove_mentions.specs.NameHashes.{hash_of, last_hash, name_alone, two_hash}
+use Rattle.relmove_mentions.specs.Names.{has_steps}
+use Rattle.relmove_mentions.specs.OldNames.{Finds, Has, WithOthers, may_have_two}
 use Rattle.relmove_mentions.specs.Spans.{others_in}
 use Rattle.relmove_mentions.specs.Written.{IsWritten, LeadsFromDirectory, LeadsFromTop, StandsFor}
+use Rattle.relmove_mentions.specs.declared.bases.Base.{Base}
 use Rattle.relmove_mentions.specs.declared.file_text.FileText.{FileText}
 use Rattle.relmove_mentions.specs.declared.endings.Ending.{Ending}
 use Rattle.relmove_mentions.specs.declared.hashes.Hashes.{Hashes}
 use Rattle.relmove_mentions.specs.declared.old_names.OldNames.{OldNames}
-use Rattle.relmove_mentions.proofs.EndingsLemmas.{ends-decoded, ends-name, has_name-named}
-use Rattle.relmove_mentions.proofs.OldNamesLemmas.{Finds-map, Finds-second, StandsFor-last}
+use Rattle.relmove_mentions.proofs.EndingsLemmas.{components-alone, ends-decoded, ends-name, has_name-named}
+use Rattle.relmove_mentions.proofs.FirstLemmas.{first_or_rest}
+use Rattle.relmove_mentions.proofs.OldNamesLemmas.{Finds-map, Finds-second, LeadsToPath-two, StandsFor-last, base_components-same}
 
 -- a text that ends in a name stands for the path to which it leads
 pub Finds-text : (olds : List (List ℕ)) (file : FileText) (others : ℕ) (text : List ℕ) (found : Option NormalView)
@@ -135,3 +145,51 @@ has_name-written olds file bytes old (inr stands) = elim (cases_Bool (has_name b
       sym (ap has_name (percent_decode-plain bytes (slashes-plain bytes none)))
       ∙ has_name-text olds file (percent_decode bytes) old stands
 ]
+
+-- ---- a name alone
+
+has_root-none : (text : List ℕ) → list_any is_slash text ≡ false → has_root text ≡ false
+has_root-none [] none = refl
+has_root-none (b ∷ bs) none = (or_parts (is_slash b) (list_any is_slash bs) none).0
+
+name_alone-one : (text : List ℕ) → name_alone (one_name text ∷ []) ≡ Some (hash_of text)
+name_alone-one text =
+    ap (λ cs. cond (has_steps cs) None (last_hash (one_name text ∷ []))) (kept-name [] text)
+    ∙ ap (option_map hash_of) (last_name-name [] text)
+
+-- where the last name of a directory and then a name may come, they may for one of the bases of these directories
+any-base : (set : OldNames) (name : Option ℕ) (bases : List Base) (directory : List Step)
+    → Contains (map base_components bases) directory → may_have_two set (two_hash (last_hash directory) name) ≡ true
+    → list_any (λ (base : Base). may_have_two set (two_hash base.name name)) bases ≡ true
+any-base set name [] directory (k, within, is) may = absurd (omega (arith, within))
+any-base set name (base ∷ bases) directory has may =
+    elim (first_or_rest (base_components base) (map base_components bases) directory has) [
+      | inl same ↦
+          or_left _ _ (ap (λ hash. may_have_two set (two_hash hash name)) (base.hashed ∙ ap last_hash same) ∙ may)
+      | inr rest ↦ or_right _ _ (any-base set name bases directory rest may)
+    ]
+
+-- a text without a slash leads from a directory of the file, if it stands for an old path
+pub StandsFor-alone : (olds : List (List ℕ)) (set : OldNames) (file : FileText) (bases : List Base) (text old : List ℕ)
+    → Has olds set → Contains olds old → map base_text bases ≡ map path_text file.directories.now
+    → list_any is_slash text ≡ false → StandsFor olds file text old
+    → list_any (λ (base : Base). may_have_two set (two_hash base.name (Some (hash_of text)))) bases ≡ true
+StandsFor-alone olds set file bases text old has is_old same none stands = of (file_name_of text) refl stands.named where
+  of : (found : Option (List ℕ)) → file_name_of text ≡ found → IsSome found
+      → list_any (λ (base : Base). may_have_two set (two_hash base.name (Some (hash_of text)))) bases ≡ true
+  of None is some = absurd (true≢false (sym some))
+  of (Some n) is some =
+      let alone : components text ≡ one_name text ∷ [] = components-alone text n none is in
+      elim stands.leads [
+        | inl (below, from) ↦
+            let two = LeadsToPath-two olds set from.directory (components text) old has is_old from.leads in
+            any-base set (Some (hash_of text)) bases from.directory
+            (subst (λ list. Contains list from.directory) (sym (base_components-same bases file.directories.now same))
+            from.is_one)
+            (ap (λ hash. may_have_two set (two_hash (last_hash from.directory) hash))
+            (sym (ap name_alone alone ∙ name_alone-one text)) ∙ two)
+        | inr (some_directory, from) ↦
+            let one : nat_lt 1 (length (components text)) ≡ false = ap (λ cs. nat_lt 1 (length cs)) alone in
+            absurd (true≢false (sym some_directory ∙ ap (λ b. b || nat_lt 1 (length (components text))) (has_root-none text none)
+            ∙ one))
+      ]

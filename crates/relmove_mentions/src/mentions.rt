@@ -1,15 +1,16 @@
 //! The mentions of old paths in a text.
-ghost use Rattle.std.specs.Prelude.{◌≡◌, ◌≤◌, ◌<◌, ◌+◌, ◌++◌, ◌==◌, ◌&&◌, ℕ, List, IfNone, IfOk, IfSome, OnOk, drop, false, length, map, if◌then◌else◌, IsTrue};
+ghost use Rattle.std.specs.Prelude.{◌≡◌, ◌≤◌, ◌<◌, ◌+◌, ◌++◌, ◌==◌, ◌&&◌, ◌||◌, ℕ, List, IfNone, IfOk, IfSome, OnOk, Some, drop, false, length, map, if◌then◌else◌, IsTrue};
 ghost use Rattle.std.specs.List.{All, AllPairs, Contains, list_all, list_any};
 ghost use Rattle.percent_encoding.specs.Percent.{percent_sign};
+ghost use Rattle.relative_path.specs.Steps.{is_slash};
 ghost use Rattle.relative_path.specs.Unix.{has_root};
 ghost use Rattle.relative_path.specs.RelativePath.{path_components, path_text};
 ghost use Rattle.relative_path_places.specs.Views.{view_text};
 ghost use Rattle.relmove_mentions.specs.Bases.{base_components};
 ghost use Rattle.relmove_mentions.specs.Endings.{IsCandidate, ending_of, may_end};
 ghost use Rattle.relmove_mentions.specs.Mentions.{AreMentionsBefore, HaveAtMost, HaveOthersFrom, IsMention, spans_of};
-ghost use Rattle.relmove_mentions.specs.NameHashes.{name_alone};
-ghost use Rattle.relmove_mentions.specs.OldNames.{Finds, Has, WithOthers};
+ghost use Rattle.relmove_mentions.specs.NameHashes.{hash_of, name_alone, two_hash};
+ghost use Rattle.relmove_mentions.specs.OldNames.{Finds, Has, WithOthers, may_have_two};
 ghost use Rattle.relmove_mentions.specs.Spans.{
   ArePassed,
   ComesBefore,
@@ -32,13 +33,14 @@ ghost use Rattle.relmove_mentions.specs.Written.{
   StandsFor,
   has_directory,
 };
+ghost use Rattle.relmove_mentions.specs.declared.bases.Base.{Base};
 ghost use Rattle.relmove_mentions.specs.declared.text_span.TextSpan.{TextSpan};
 
 use crate::bases::Base;
 use crate::endings::{Ending, with_word};
 use crate::file_text::FileText;
 use crate::hashes::Hashes;
-use crate::name_hashes::{last_two_hash, name_alone, two_hash};
+use crate::name_hashes::{hash_of, last_two_hash, name_alone, two_hash};
 use crate::old_names::OldNames;
 use crate::searched_file::{SearchedFile, bases_of};
 use crate::text_span::{TextSpan, is_apart, is_bounded_after, is_bounded_before, is_path_byte};
@@ -375,6 +377,9 @@ impl<'p> OldNames<'p> {
         ensures { IfOk result (λ found. (olds : List (List ℕ)) → Has olds self.now
             → Finds olds (WithOthers others (StandsFor olds searched.entry.file text.now)) found) }
     {
+        if !self.may_stand(searched.directories, text) {
+            return Ok(None);
+        }
         let Ok(text) = str::from_utf8(text) else {
             return Ok(None);
         };
@@ -392,6 +397,24 @@ impl<'p> OldNames<'p> {
             return Ok(Some(old));
         }
         self.find_from_top(alloc, searched, others, path)
+    }
+
+    // Returns whether a text may stand for an old path in a file with these directories. A name alone leads from one of them, so
+    // a name of the path ends in the directory's last name and this one: most words of a text end here.
+    fn may_stand(&self, directories: &[Base<'_>], text: &[u8]) -> bool
+        ensures { result ≡ (list_any is_slash text.now
+            || list_any (λ (base : Base). may_have_two self.now (two_hash base.name (Some (hash_of text.now)))) directories.now) }
+    {
+        has_slash(text) || self.may_have_below(directories, Some(hash_of(text)))
+    }
+
+    // Returns whether a name of an old path may end in the last name of one of these bases, and then in a name with this hash.
+    fn may_have_below(&self, bases: &[Base<'_>], name: Option<u64>) -> bool
+        ensures { result ≡ list_any (λ (base : Base). may_have_two self.now (two_hash base.name name)) bases.now }
+    {
+        bases
+            .iter()
+            .any(|base| self.may_have_two(two_hash(base.name, name)))
     }
 
     // Returns an old path with at least so many bytes that aren't path bytes to which a path leads from a directory of a file.
@@ -585,6 +608,13 @@ fn has_percent(bytes: &[u8]) -> bool
     ensures { result ≡ list_any (λ b. b == percent_sign) bytes.now }
 {
     bytes.iter().any(|byte| *byte == b'%')
+}
+
+// Returns whether a text has a slash.
+fn has_slash(text: &[u8]) -> bool
+    ensures { result ≡ list_any is_slash text.now }
+{
+    text.iter().any(|byte| *byte == b'/')
 }
 
 // Returns whether a path begins with a slash.

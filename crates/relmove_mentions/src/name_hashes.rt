@@ -15,7 +15,7 @@ pub(crate) fn hash_with(hash: u64, byte: u8) -> u64
 }
 
 // Returns the hash of a text.
-fn hash_of(text: &[u8]) -> u64
+pub(crate) fn hash_of(text: &[u8]) -> u64
     ensures { result ≡ hash_of text.now }
 {
     let mut hash = 0;
