@@ -1,6 +1,7 @@
 //! The directories from which the paths in a file can lead.
 use crate::addresses::without_extension;
 use crate::extensions::is_data;
+use crate::slugs::address_path;
 use crate::tree::normal_text;
 use relative_path::RelativePath;
 use relative_path_moves::TreeMoves;
@@ -115,13 +116,56 @@ pub struct Base<'a> {
     pub is_top: bool,
 }
 
-/// The directories from which the paths in the file at a path can lead, which is at another path after the moves: its own
-/// first, and for a page the one that it is in the addresses of a site. For a file of values these are also the tops in its
-/// directory, as `docs` is for `mkdocs.yml`. The tops come last. Allocates the list.
+/// The directories from which the paths in a page can lead, where a site's addresses have others for them.
+#[derive(Drop)]
+pub struct Addresses {
+    // Each before the moves and after them.
+    pairs: Vec<(String, String)>,
+}
+
+impl Addresses {
+    /// Those of the file at a path, which is at another path after the moves. A file that is no page has none. Allocates them.
+    pub fn of(
+        alloc: Global,
+        path: RelativePath<'_>,
+        new: RelativePath<'_>,
+    ) -> Result<Addresses, AllocError> {
+        let mut addresses = Addresses {
+            pairs: Vec::new(alloc),
+        };
+        if is_page(path) {
+            addresses.add(alloc, directory(path), directory(new))?;
+            addresses.add(alloc, without_extension(path), without_extension(new))?;
+        }
+        Ok(addresses)
+    }
+
+    // Adds the address of a directory, if that isn't its path.
+    fn add(
+        &mut self,
+        alloc: Global,
+        before: RelativePath<'_>,
+        after: RelativePath<'_>,
+    ) -> Result<(), AllocError> {
+        let Some(before) = address_path(alloc, before.as_str())? else {
+            return Ok(());
+        };
+        let after = match address_path(alloc, after.as_str())? {
+            Some(after) => after,
+            None => String::from_str(alloc, after.as_str())?,
+        };
+        self.pairs.push((before, after))?;
+        Ok(())
+    }
+}
+
+/// The directories from which the paths in a file can lead, by its path and the one after the moves: its own first, and for a
+/// page the one that it is in the addresses of a site, and those that the addresses have for these two. For a file of values
+/// these are also the tops in its directory, as `docs` is for `mkdocs.yml`. The tops come last. Allocates the list.
 pub fn bases_of<'t>(
     alloc: Global,
-    path: RelativePath<'t>,
-    new: RelativePath<'t>,
+    (path, new): (RelativePath<'t>, RelativePath<'t>),
+    addresses: &'t Addresses,
     tops: &'t [RelativePath<'t>],
     tops_after: &'t [RelativePath<'t>],
 ) -> Result<Vec<Base<'t>>, AllocError> {
@@ -136,6 +180,13 @@ pub fn bases_of<'t>(
         bases.push(Base {
             before: without_extension(path),
             after: without_extension(new),
+            is_top: false,
+        })?;
+    }
+    for (before, after) in &addresses.pairs {
+        bases.push(Base {
+            before: RelativePath::new(before.as_str()),
+            after: RelativePath::new(after.as_str()),
             is_top: false,
         })?;
     }

@@ -13,7 +13,7 @@
 //! what is at a path       presence  seen  site_root
 //! what a check finds      checked  pages_as
 //! what is below the root  tree
-//! what all share          position  extensions
+//! what all share          position  extensions  slugs
 //! ```
 #![tactic(auto)]
 
@@ -51,6 +51,7 @@ mod search;
 mod seen;
 mod shown_names;
 mod site_root;
+mod slugs;
 mod targets;
 mod tree;
 mod words;

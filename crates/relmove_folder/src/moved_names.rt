@@ -1,12 +1,14 @@
 //! The names of what moves in a tree, before the moves and after them.
 use crate::extensions::is_searched;
 use crate::moving_tree::MovingTree;
-use crate::tree::Tree;
+use crate::slugs::address_path;
+use crate::tree::{Tree, is_directory_entry};
 use relative_path::RelativePath;
 use relative_path_moves::TreeMoves;
-use relative_path_places::NormalPath;
-use relmove_mentions::OldNames;
+use relative_path_places::{NormalPath, NormalView};
+use relmove_mentions::{Mention, OldNames, is_page};
 use std::alloc::{AllocError, Global};
+use std::collections::BTreeMap;
 
 /// The paths for which a tree is searched.
 #[derive(Drop)]
@@ -21,8 +23,8 @@ impl SearchedPaths {
     /// What is searched for in a tree that moves. Allocates the paths.
     pub fn of(alloc: Global, moving: MovingTree<'_, '_>) -> Result<SearchedPaths, AllocError> {
         let MovingTree { tree, moves, .. } = moving;
-        let moved = PathPairs::of(alloc, moves, moved_paths(alloc, moving)?)?;
-        let all = PathPairs::of(alloc, moves, paths_for_moved(alloc, tree, &moved)?)?;
+        let moved = PathPairs::of(alloc, tree, moves, moved_paths(alloc, moving)?)?;
+        let all = PathPairs::of(alloc, tree, moves, paths_for_moved(alloc, tree, &moved)?)?;
         Ok(SearchedPaths { moved, all })
     }
 }
@@ -31,15 +33,16 @@ impl SearchedPaths {
 #[derive(Drop)]
 pub struct PathPairs {
     /// The paths before the moves.
-    pub before: Vec<NormalPath>,
+    pub before: KnownPaths,
     /// Those after them.
-    pub after: Vec<NormalPath>,
+    pub after: KnownPaths,
 }
 
 impl PathPairs {
     // These paths, and what they are after moves.
     fn of(
         alloc: Global,
+        tree: &Tree,
         moves: &TreeMoves<'_>,
         before: Vec<NormalPath>,
     ) -> Result<PathPairs, AllocError> {
@@ -47,7 +50,58 @@ impl PathPairs {
         for path in &before {
             after.push(moves.path_after(alloc, path.as_relative_path())?)?;
         }
-        Ok(PathPairs { before, after })
+        let addressed = addressed_entries(alloc, tree, &before)?;
+        Ok(PathPairs {
+            before: KnownPaths::of(alloc, tree, before, &addressed)?,
+            after: KnownPaths::of(alloc, tree, after, &addressed)?,
+        })
+    }
+}
+
+// The numbers of those paths for which a site makes addresses: of pages and directories.
+fn addressed_entries(
+    alloc: Global,
+    tree: &Tree,
+    paths: &[NormalPath],
+) -> Result<Vec<usize>, AllocError> {
+    let mut numbers = Vec::new(alloc);
+    for (number, path) in paths.iter().enumerate() {
+        let path = path.as_relative_path();
+        if is_page(path) || is_directory_entry(tree, path.as_str()) {
+            numbers.push(number)?;
+        }
+    }
+    Ok(numbers)
+}
+
+/// Paths of entries, and the addresses that a site makes of them.
+#[derive(Drop)]
+pub struct KnownPaths {
+    /// The paths.
+    pub paths: Vec<NormalPath>,
+    // The addresses that aren't paths of a tree, each with the number of its path.
+    addresses: Vec<(NormalPath, usize)>,
+}
+
+impl KnownPaths {
+    // Paths, with the addresses of those that have these numbers, unless something in the tree is there.
+    fn of(
+        alloc: Global,
+        tree: &Tree,
+        paths: Vec<NormalPath>,
+        addressed: &[usize],
+    ) -> Result<KnownPaths, AllocError> {
+        let mut addresses = Vec::new(alloc);
+        for number in addressed {
+            if let Some(path) = paths.get(*number)
+                && let Some(address) = address_path(alloc, path.as_relative_path().as_str())?
+                && !tree.entries.contains_key(address.as_str())
+            {
+                let address = NormalPath::of(alloc, RelativePath::new(address.as_str()))?;
+                addresses.push((address, *number))?;
+            }
+        }
+        Ok(KnownPaths { paths, addresses })
     }
 }
 
@@ -71,6 +125,7 @@ fn paths_for_moved(
     let mut paths = Vec::new(alloc);
     if !moved
         .before
+        .paths
         .iter()
         .any(|path| is_searched(path.as_relative_path()))
     {
@@ -86,28 +141,63 @@ fn paths_for_moved(
 #[derive(Drop)]
 pub struct Names<'p> {
     /// The names before the moves.
-    pub before: OldNames<'p>,
+    pub before: KnownNames<'p>,
     /// Those after them.
-    pub after: OldNames<'p>,
+    pub after: KnownNames<'p>,
 }
 
 impl<'p> Names<'p> {
     /// The names of paths. Allocates them.
     pub fn of(alloc: Global, paths: &'p PathPairs) -> Result<Names<'p>, AllocError> {
         Ok(Names {
-            before: names_of(alloc, &paths.before)?,
-            after: names_of(alloc, &paths.after)?,
+            before: KnownNames::of(alloc, &paths.before)?,
+            after: KnownNames::of(alloc, &paths.after)?,
         })
     }
 }
 
-// The names of paths.
-fn names_of(alloc: Global, paths: &[NormalPath]) -> Result<OldNames<'_>, AllocError> {
-    let mut views = Vec::with_capacity(alloc, paths.len())?;
-    for path in paths {
-        views.push(path.view())?;
+/// The names of paths, and of the addresses that a site makes of them.
+#[derive(Drop)]
+pub struct KnownNames<'p> {
+    /// The names, also those of addresses.
+    pub names: OldNames<'p>,
+    // The paths of which a site makes these addresses.
+    addressed: BTreeMap<String, NormalView<'p>>,
+}
+
+impl<'p> KnownNames<'p> {
+    // The names of paths, and of their addresses. A name of a path comes before that of an address.
+    fn of(alloc: Global, known: &'p KnownPaths) -> Result<KnownNames<'p>, AllocError> {
+        let count = known.paths.len().saturating_add(known.addresses.len());
+        let mut views = Vec::with_capacity(alloc, count)?;
+        for path in &known.paths {
+            views.push(path.view())?;
+        }
+        let mut addressed = BTreeMap::new(alloc);
+        for (address, number) in &known.addresses {
+            views.push(address.view())?;
+            if let Some(path) = known.paths.get(*number) {
+                let address = String::from_str(alloc, address.as_relative_path().as_str())?;
+                addressed.entry(address)?.or_insert(path.view());
+            }
+        }
+        Ok(KnownNames {
+            names: OldNames::of(alloc, &views)?,
+            addressed,
+        })
     }
-    OldNames::of(alloc, &views)
+
+    /// Puts the path for which a site makes an address in place of each such address. Allocates nothing.
+    pub fn resolve(&self, mentions: &mut [Mention<'p>]) {
+        if self.addressed.is_empty() {
+            return;
+        }
+        for mention in mentions.iter_mut() {
+            if let Some(path) = self.addressed.get(mention.path.as_relative_path().as_str()) {
+                mention.path = *path;
+            }
+        }
+    }
 }
 
 /// Paths as relative paths. Allocates the list.

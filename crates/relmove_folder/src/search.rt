@@ -1,7 +1,7 @@
 //! Searches the text of a file for paths that no longer lead where they led.
-use crate::bases::{Base, bases_of, directories_of};
+use crate::bases::{Addresses, Base, bases_of, directories_of};
 use crate::extensions::is_data;
-use crate::moved_names::Names;
+use crate::moved_names::{KnownNames, Names};
 use crate::moving_tree::MovingTree;
 use crate::places::{MentionPlace, MentionPlaces};
 use crate::position::Positions;
@@ -9,7 +9,7 @@ use crate::targets::{PageTargets, Rewritten};
 use crate::words::{is_taken_for_path, written_at};
 use relative_path::{RelativePath, RelativePathBuf};
 use relative_path_places::{NormalView, directory};
-use relmove_mentions::{FileText, Mention, OldNames, TextSpan, are_spans_in_order};
+use relmove_mentions::{FileText, Mention, TextSpan, are_spans_in_order};
 use std::alloc::{AllocError, Global};
 
 /// What texts are searched for.
@@ -77,7 +77,9 @@ impl<'p> Search<'_, '_, 'p> {
         targets: &PageTargets,
         places: &mut Vec<OldPathAt>,
     ) -> Result<(), AllocError> {
-        let bases = bases_of(alloc, file.path, file.new, self.tops, self.tops_after)?;
+        let addresses = Addresses::of(alloc, file.path, file.new)?;
+        let paths = (file.path, file.new);
+        let bases = bases_of(alloc, paths, &addresses, self.tops, self.tops_after)?;
         let directories = directories_of(alloc, &bases)?;
         let names = &self.names_for(file).before;
         let read = targets.read.as_slice();
@@ -333,7 +335,7 @@ fn line_path<'p>(place: &'p OldPathAt, positions: &mut Positions<'_>) -> LinePat
 // Where a text has one of these names, apart from what was read. That is in order, since a plan made it.
 fn mentions_in<'p, 't>(
     alloc: Global,
-    names: &OldNames<'p>,
+    names: &KnownNames<'p>,
     directories: &'t [RelativePath<'t>],
     tops: &'t [RelativePath<'t>],
     text: &'t str,
@@ -348,13 +350,15 @@ fn mentions_in<'p, 't>(
         text: text.as_bytes(),
         read,
     };
-    names.mentions(alloc, file)
+    let mut mentions = names.names.mentions(alloc, file)?;
+    names.resolve(&mut mentions);
+    Ok(mentions)
 }
 
 // The path to which a text leads as a whole from a directory of its file, or from a top.
 fn path_from<'p, 't>(
     alloc: Global,
-    names: &OldNames<'p>,
+    names: &KnownNames<'p>,
     base: RelativePath<'t>,
     is_top: bool,
     text: &'t str,
