@@ -1,5 +1,5 @@
 -- What a text ends in is what its file name ends in.
-use Rattle.std.proofs.Common.{◌≡◌, ◌⊎◌, ℕ, zero, suc, cond, ◌+◌, ◌*◌, ◌<◌, ◌≤◌, Bool, true, false, ◌||◌, ◌&&◌, ◌==◌, List, [], ◌∷◌, ◌++◌, length, not, replicate, Some, None, inl, inr, refl, sym, ap, ◌∙◌, subst, true≢false, arith, bytes_eq, get_or-append-add, length-append, get_or, append_assoc}
+use Rattle.std.proofs.Common.{◌≡◌, ◌⊎◌, ℕ, zero, suc, cond, ◌+◌, ◌*◌, ◌<◌, ◌≤◌, Bool, true, false, ◌||◌, ◌&&◌, ◌==◌, List, [], ◌∷◌, ◌++◌, length, not, replicate, Some, None, inl, inr, refl, sym, ap, ap₂, ◌∙◌, subst, true≢false, arith, bytes_eq, get_or-append-add, length-append, get_or, append_assoc}
 use Rattle.std.specs.List.{AllByRecursion, fold, list_any}
 use Rattle.std.specs.Char.{digit_value, is_digit}
 use Rattle.std.specs.Prelude.{is_some}
@@ -15,7 +15,8 @@ use Rattle.relative_path.specs.Editing.{kept, pushed, with_separator}
 use Rattle.relative_path.specs.Naming.{file_name_of, last_name}
 use Rattle.relative_path.proofs.ForCallers.{components-pushed, components-trailing_slash, last_name-name, last_name-split}
 use Rattle.relmove_mentions.specs.Endings.{ending_of, has_name, next_ending, no_ending, with_byte}
-use Rattle.relmove_mentions.specs.Spans.{is_other_byte}
+use Rattle.relmove_mentions.specs.NameHashes.{next_hash}
+use Rattle.relmove_mentions.specs.Spans.{is_other_byte, is_path_byte}
 use Rattle.relmove_mentions.specs.declared.endings.Ending.{Ending}
 
 -- ---- one more byte
@@ -39,6 +40,19 @@ next-path : (e : Ending) (b : ℕ) → is_slash b ≡ false → is_other_byte b 
 next-path e b plain path goes_on =
     cond-false (is_slash b) _ _ plain
     ∙ ap (λ f. with_byte f b) (cond-false (e.ended || is_other_byte b) no_ending e (or_false e.ended (is_other_byte b) goes_on path))
+
+-- a plain byte adds to the hash alone
+pub next-plain : (e : Ending) (b : ℕ) → is_path_byte b ≡ true → (b == percent_sign) ≡ false → is_slash b ≡ false
+    → e.ended ≡ false → next_ending e b ≡ record { hash = next_hash e.hash b; encoded = e.encoded; ended = e.ended }
+next-plain e b path encoded plain goes_on =
+    next-path e b plain (ap not path) goes_on
+    ∙ ap₂ (ending_with (next_hash e.hash b)) (ap (λ c. e.encoded || c) encoded ∙ or_none e.encoded) (ap not path ∙ sym goes_on) where
+      ending_with : ℕ → Bool → Bool → Ending
+      ending_with hash first ended = record { hash = hash; encoded = first; ended = ended }
+
+      or_none : (a : Bool) → (a || false) ≡ a
+      or_none true = refl
+      or_none false = refl
 
 -- an other byte is no slash
 pub other-not_slash : (b : ℕ) → is_other_byte b ≡ true → is_slash b ≡ false

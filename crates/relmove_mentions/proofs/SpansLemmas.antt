@@ -2,7 +2,7 @@
 use Rattle.std.proofs.Common.{◌≡◌, ◌==◌, ◌++◌, inl, inr, ℕ, zero, suc, cond, ◌+◌, ◌-◌, ◌<◌, ◌≤◌, Bool, true, false, not, ◌||◌, ◌&&◌, List, [], ◌∷◌, length, take, drop, get_or, refl, sym, ap, ◌∙◌, subst, arith, length-drop, drop-cons}
 use Rattle.std.specs.Prelude.{nat_le}
 use Rattle.std.specs.List.{fold, list_all}
-use Rattle.std.proofs.lemmas.Bool.{and_parts, cases_lt, eqb-true, le-leb, lt-leb, not-true, or_cases}
+use Rattle.std.proofs.lemmas.Bool.{cases_lt, eqb-true, le-leb, lt-leb, or_cases}
 use Rattle.std.proofs.lemmas.List.{drop-drop, get_or-drop, take-take}
 use Rattle.std.proofs.lemmas.List.Sums.{fold-append, fold_more, sum_by-append, sum_by-cons, sum_by-take-le, sum_by_more}
 use Rattle.std.proofs.Math.ListN.{drop_of_length-le}
@@ -157,13 +157,24 @@ fold-next e text start end order within =
     ∙ ap (next_ending (fold next_ending e (take (end - start) (drop start text))))
     (get_or-drop start text (end - start) 0 ∙ ap (λ k. get_or text k 0) at)
 
+-- no byte
+pub fold-none : (e : Ending) (text : List ℕ) (start : ℕ) → fold next_ending e (take (start - start) (drop start text)) ≡ e
+fold-none e text start = let none : start - start ≡ 0 = omega arith in ap (λ n. fold next_ending e (take n (drop start text))) none
+
 -- with one byte
 pub fold-first : (e : Ending) (text : List ℕ) (start : ℕ) → start < length text
     → fold next_ending e (take (start + 1 - start) (drop start text)) ≡ next_ending e (get_or text start 0)
 fold-first e text start within =
-    let none : start - start ≡ 0 = omega arith in
-    fold-next e text start start (omega arith) within
-    ∙ ap (λ n. next_ending (fold next_ending e (take n (drop start text))) (get_or text start 0)) none
+    fold-next e text start start (omega arith) within ∙ ap (λ f. next_ending f (get_or text start 0)) (fold-none e text start)
+
+-- with the first of some bytes, and then the others
+pub fold-rest : (e : Ending) (text : List ℕ) (start end : ℕ) → start < end → start < length text
+    → fold next_ending e (take (end - start) (drop start text))
+    ≡ fold next_ending (next_ending e (get_or text start 0)) (take (end - (start + 1)) (drop (start + 1) text))
+fold-rest e text start end order within =
+    ap (fold next_ending e) (take-after text start (start + 1) end (omega arith) (omega (arith, order)))
+    ∙ fold-append next_ending e (take (start + 1 - start) (drop start text)) (take (end - (start + 1)) (drop (start + 1) text))
+    ∙ ap (λ f. fold next_ending f (take (end - (start + 1)) (drop (start + 1) text))) (fold-first e text start within)
 
 -- with one more byte
 pub ending_of-next : (text : List ℕ) (start end : ℕ) → start ≤ end → end < length text
@@ -207,15 +218,14 @@ ending_of-after text start mid end order within inside bounded named = elim (cas
   ]
 ]
 
--- no path ends before a byte that goes on one and is no full stop
-pub is_bounded_after-word : (text : List ℕ) (end : ℕ) → end < length text
-    → (is_path_byte (get_or text end 0) && not (get_or text end 0 == 46)) ≡ true → is_bounded_after text end ≡ false
-is_bounded_after-word text end within is =
-    let (path, plain) = and_parts (is_path_byte (get_or text end 0)) (not (get_or text end 0 == 46)) is in
+-- no path ends before a plain byte
+pub is_bounded_after-plain : (text : List ℕ) (end : ℕ) → end < length text
+    → is_path_byte (get_or text end 0) ≡ true → (get_or text end 0 == 46) ≡ false → is_bounded_after text end ≡ false
+is_bounded_after-plain text end within path plain =
     ap (λ b. (b || not (is_path_byte (get_or text end 0))) || (get_or text end 0 == 46 && is_bounded_at text (end + 1)))
     (lt-leb (length text) end within)
     ∙ ap (λ b. not b || (get_or text end 0 == 46 && is_bounded_at text (end + 1))) path
-    ∙ ap (λ b. b && is_bounded_at text (end + 1)) (not-true (get_or text end 0 == 46) plain)
+    ∙ ap (λ b. b && is_bounded_at text (end + 1)) plain
 
 -- ---- the spans after so many
 

@@ -7,7 +7,7 @@ ghost use Rattle.relmove_mentions.specs.Spans.{is_bounded_after};
 
 use crate::hashes::Hashes;
 use crate::name_hashes::hash_with;
-use crate::text_span::{is_path_byte, is_word_byte};
+use crate::text_span::{is_path_byte, is_plain_byte};
 
 // The hash of a full stop.
 const DOT_HASH: u64 = 46;
@@ -81,8 +81,8 @@ impl Ending {
     }
 }
 
-// Returns what a text ends in after one that ends so, with its bytes from an offset on: with the first of them, and up to the
-// next offset at which no path goes on, or a full stop comes.
+// Returns what a text ends in after one that ends so, with its bytes from an offset on: with the first of them, and with more
+// of them as long as it is clear that a path goes on.
 #[inline]
 pub(crate) fn with_word(before: Ending, text: &[u8], start: usize) -> EndingAt
     requires { start < length text.now }
@@ -91,12 +91,33 @@ pub(crate) fn with_word(before: Ending, text: &[u8], start: usize) -> EndingAt
     ensures ending { result.ending ≡ fold next_ending before (take (result.end - start) (drop start text.now)) }
     ensures inside { (at : ℕ) → start < at → at < result.end → is_bounded_after text.now at ≡ false }
 {
-    let mut ending = before.then(text[start]);
-    let mut end = start + 1;
-    while end < text.len() && is_word_byte(text[end]) {
-        ending = ending.then(text[end]);
+    let ending = before.then(text[start]);
+    if ending.ended {
+        return EndingAt {
+            ending,
+            end: start + 1,
+        };
+    }
+    with_plain_bytes(ending, text, start + 1)
+}
+
+// Returns the same with the plain bytes from an offset on, if the next byte doesn't begin others.
+#[inline]
+fn with_plain_bytes(before: Ending, text: &[u8], start: usize) -> EndingAt
+    requires within { start ≤ length text.now }
+    requires goes_on { before.ended ≡ false }
+    ensures after { start ≤ result.end }
+    ensures within { result.end ≤ length text.now }
+    ensures ending { result.ending ≡ fold next_ending before (take (result.end - start) (drop start text.now)) }
+    ensures inside { (at : ℕ) → start ≤ at → at < result.end → is_bounded_after text.now at ≡ false }
+{
+    let mut hash = before.hash;
+    let mut end = start;
+    while end < text.len() && is_plain_byte(text[end]) {
+        hash = hash_with(hash, text[end]);
         end += 1;
     }
+    let ending = Ending { hash, ..before };
     EndingAt { ending, end }
 }
 

@@ -1,5 +1,5 @@
 //! Spans of a text, and where one can begin and end.
-ghost use Rattle.std.specs.Prelude.{◌≡◌, ◌≤◌, ◌↔◌, ◌==◌, ◌&&◌, IsTrue, length, not};
+ghost use Rattle.std.specs.Prelude.{◌≡◌, ◌≤◌, ◌↔◌, ◌==◌, ◌&&◌, ◌||◌, IsTrue, length, not};
 ghost use Rattle.relmove_mentions.specs.Spans.{
   FollowFrom,
   is_apart,
@@ -84,12 +84,12 @@ pub(crate) fn is_path_byte(byte: u8) -> bool
     PATH_BYTES[byte as usize]
 }
 
-// Returns whether a path goes on with a byte that is no full stop.
+// Returns whether a path goes on with a byte that is no percent sign, full stop or slash.
 #[inline]
-pub(crate) fn is_word_byte(byte: u8) -> bool
-    ensures { result ≡ (is_path_byte byte && not (byte == 46)) }
+pub(crate) fn is_plain_byte(byte: u8) -> bool
+    ensures { result ≡ (is_path_byte byte && not (byte == 37 || byte == 46 || byte == 47)) }
 {
-    is_path_byte(byte) && byte != b'.'
+    is_path_byte(byte) && !(byte == b'%' || byte == b'.' || byte == b'/')
 }
 
 // Returns how many bytes of a text aren't path bytes.
