@@ -2,7 +2,7 @@
 use crate::addresses::MovedPage;
 use crate::bases::Tops;
 use crate::extensions::is_searched_file;
-use crate::moved_names::{Names, SearchedPaths, relative_paths};
+use crate::moved_names::{KnownNames, Names, SearchedPaths, relative_paths};
 use crate::moving_tree::{MovingTree, numbers_of};
 use crate::pages_as::{PagesAs, ShownMove};
 use crate::places::MentionPlaces;
@@ -111,7 +111,7 @@ fn search_all<S: Store>(
     let alloc = store.alloc();
     let paths = SearchedPaths::of(alloc, moving)?;
     let moved = Names::of(alloc, &paths.moved)?;
-    let all = Names::of(alloc, &paths.all)?;
+    let all = KnownNames::of(alloc, &paths.all)?;
     let before = relative_paths(alloc, &tops.before)?;
     let after = relative_paths(alloc, &tops.after)?;
     let search = Search {

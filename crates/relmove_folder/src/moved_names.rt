@@ -15,8 +15,9 @@ use std::collections::BTreeMap;
 pub struct SearchedPaths {
     /// The entries that move.
     pub moved: PathPairs,
-    /// All entries, if a file moves that is searched: what it writes of files that stay may no longer lead to them.
-    pub all: PathPairs,
+    /// All entries before the moves, if a file moves that is searched: what it writes of files that stay may no longer lead to
+    /// them.
+    pub all: KnownPaths,
 }
 
 impl SearchedPaths {
@@ -24,7 +25,9 @@ impl SearchedPaths {
     pub fn of(alloc: Global, moving: MovingTree<'_, '_>) -> Result<SearchedPaths, AllocError> {
         let MovingTree { tree, moves, .. } = moving;
         let moved = PathPairs::of(alloc, tree, moves, moved_paths(alloc, moving)?)?;
-        let all = PathPairs::of(alloc, tree, moves, paths_for_moved(alloc, tree, &moved)?)?;
+        let paths = paths_for_moved(alloc, tree, &moved)?;
+        let addressed = addressed_entries(alloc, tree, &paths)?;
+        let all = KnownPaths::of(alloc, tree, paths, &addressed)?;
         Ok(SearchedPaths { moved, all })
     }
 }
@@ -58,7 +61,7 @@ impl PathPairs {
     }
 }
 
-// The numbers of those paths for which a site makes addresses: of pages and directories.
+// The numbers of those paths of entries of which a site makes addresses: of pages and directories.
 fn addressed_entries(
     alloc: Global,
     tree: &Tree,
@@ -79,7 +82,7 @@ fn addressed_entries(
 pub struct KnownPaths {
     /// The paths.
     pub paths: Vec<NormalPath>,
-    // The addresses that aren't paths of a tree, each with the number of its path.
+    // The addresses that aren't paths of the tree, each with the number of its path.
     addresses: Vec<(NormalPath, usize)>,
 }
 
@@ -166,8 +169,8 @@ pub struct KnownNames<'p> {
 }
 
 impl<'p> KnownNames<'p> {
-    // The names of paths, and of their addresses. A name of a path comes before that of an address.
-    fn of(alloc: Global, known: &'p KnownPaths) -> Result<KnownNames<'p>, AllocError> {
+    /// The names of paths, and of their addresses. A name of a path comes before that of an address. Allocates them.
+    pub fn of(alloc: Global, known: &'p KnownPaths) -> Result<KnownNames<'p>, AllocError> {
         let count = known.paths.len().saturating_add(known.addresses.len());
         let mut views = Vec::with_capacity(alloc, count)?;
         for path in &known.paths {

@@ -19,8 +19,8 @@ pub struct Search<'a, 'm, 'p> {
     pub moving: MovingTree<'a, 'm>,
     /// The names of what moves, for files that stay.
     pub moved: &'a Names<'p>,
-    /// Those of all entries, for files that move.
-    pub all: &'a Names<'p>,
+    /// Those of all entries before the moves, for files that move.
+    pub all: &'a KnownNames<'p>,
     /// The tops before the moves.
     pub tops: &'a [RelativePath<'a>],
     /// The same directories after the moves.
@@ -81,7 +81,7 @@ impl<'p> Search<'_, '_, 'p> {
         let paths = (file.path, file.new);
         let bases = bases_of(alloc, paths, &addresses, self.tops, self.tops_after)?;
         let directories = directories_of(alloc, &bases)?;
-        let names = &self.names_for(file).before;
+        let names = self.names_for(file);
         let read = targets.read.as_slice();
         let mentions = mentions_in(alloc, names, &directories, self.tops, file.text, read)?;
         for mention in &mentions {
@@ -91,9 +91,9 @@ impl<'p> Search<'_, '_, 'p> {
     }
 
     // The names for which a file is searched.
-    fn names_for(&self, file: SearchedFile<'_, '_>) -> &Names<'p> {
-        if file.new == file.path {
-            self.moved
+    fn names_for(&self, file: SearchedFile<'_, '_>) -> &KnownNames<'p> {
+        if file.stays() {
+            &self.moved.before
         } else {
             self.all
         }
@@ -140,7 +140,7 @@ impl<'p> Search<'_, '_, 'p> {
             });
         }
         let is_right = match targets.rewritten_at(mention.span) {
-            Some(target) => self.is_right_anew(alloc, self.names_for(file), target, mention)?,
+            Some(target) => self.is_right_anew(alloc, file, target, mention)?,
             None => self.is_right(alloc, file, bases, mention)?,
         };
         if is_right {
@@ -193,14 +193,19 @@ impl<'p> Search<'_, '_, 'p> {
     fn is_right_anew(
         &self,
         alloc: Global,
-        names: &Names<'p>,
+        file: SearchedFile<'_, '_>,
         target: &Rewritten,
         mention: Mention<'_>,
     ) -> Result<bool, AllocError> {
-        let file = RelativePath::new(target.file.as_str());
-        let moved = self.moving.moves.path_after(alloc, file)?;
+        let place = RelativePath::new(target.file.as_str());
+        let moved = self.moving.moves.path_after(alloc, place)?;
         let text = moved.as_relative_path().as_str();
-        let after = path_from(alloc, &names.after, RelativePath::new(""), false, text)?;
+        let root = Base {
+            before: RelativePath::new(""),
+            after: RelativePath::new(""),
+            is_top: false,
+        };
+        let after = self.path_after(alloc, file, root, text)?;
         self.is_moved_to(alloc, mention.path, after)
     }
 
@@ -216,13 +221,41 @@ impl<'p> Search<'_, '_, 'p> {
         let written = written_at(file.text, mention.span);
         let names = self.names_for(file);
         for base in bases {
-            let old = path_from(alloc, &names.before, base.before, base.is_top, written)?;
+            let old = path_from(alloc, names, base.before, base.is_top, written)?;
             if let Some(old) = old {
-                let after = path_from(alloc, &names.after, base.after, base.is_top, written)?;
+                let after = self.path_after(alloc, file, *base, written)?;
                 return self.is_moved_to(alloc, old, after);
             }
         }
         Ok(false)
+    }
+
+    // The path to which a text leads from a base after the moves: what has moved, or for a file that moves what stays. `None` if
+    // it may be either.
+    fn path_after(
+        &self,
+        alloc: Global,
+        file: SearchedFile<'_, '_>,
+        base: Base<'_>,
+        text: &str,
+    ) -> Result<Option<NormalView<'p>>, AllocError> {
+        let moved = path_from(alloc, &self.moved.after, base.after, base.is_top, text)?;
+        if file.stays() {
+            return Ok(moved);
+        }
+        let found = path_from(alloc, self.all, base.after, base.is_top, text)?;
+        let stays = found.filter(|path| self.stays(*path));
+        Ok(match (moved, stays) {
+            (Some(_), Some(_)) => None,
+            (Some(path), None) | (None, Some(path)) => Some(path),
+            (None, None) => None,
+        })
+    }
+
+    // Whether what is at a path doesn't move.
+    fn stays(&self, path: NormalView<'_>) -> bool {
+        let path = path.as_relative_path().as_str();
+        self.moving.number_of(path).is_none()
     }
 
     // Whether what is at a path moves to this one, and keeps its file name. A path with another file name is written anew: not
@@ -300,6 +333,13 @@ struct SearchedFile<'a, 'n> {
     path: RelativePath<'a>,
     new: RelativePath<'n>,
     text: &'a str,
+}
+
+impl SearchedFile<'_, '_> {
+    // Whether the file doesn't move.
+    fn stays(&self) -> bool {
+        self.new == self.path
+    }
 }
 
 // An old path, and the offset at which it is written. If neither the path nor the file moves, the move with this number
