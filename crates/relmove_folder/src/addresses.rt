@@ -39,7 +39,7 @@ fn place_from(
 
 // The address of what is at a path, on such a site: an index page's directory, and of another page the path without its
 // extension. What is no page has its path.
-fn address_of<'a>(path: RelativePath<'a>) -> RelativePath<'a> {
+pub(crate) fn address_of<'a>(path: RelativePath<'a>) -> RelativePath<'a> {
     if is_index_page(path) {
         directory(path)
     } else if is_page(path) {
@@ -49,8 +49,8 @@ fn address_of<'a>(path: RelativePath<'a>) -> RelativePath<'a> {
     }
 }
 
-/// The path without its extension. Allocates nothing.
-pub(crate) fn without_extension<'a>(path: RelativePath<'a>) -> RelativePath<'a> {
+// The path without its extension.
+fn without_extension<'a>(path: RelativePath<'a>) -> RelativePath<'a> {
     match path.as_str().rsplit_once('.') {
         Some((front, _)) => RelativePath::new(front),
         None => path,
@@ -110,6 +110,29 @@ pub(crate) fn from_address(
         }
         _ => FromAddress::Lost(shown, number_of(alloc, moving, edit)?),
     })
+}
+
+// The index page that leaves the directory to which a target of dots alone leads from its page's address, if it isn't known how the
+// site shows its pages.
+pub(crate) fn left_from_address(
+    alloc: Global,
+    moving: MovingTree<'_, '_>,
+    page: &Page,
+    edit: &Edit,
+) -> Result<Option<String>, AllocError> {
+    let text = page.text.get(edit.target.start..edit.target.end);
+    let text = text.unwrap_or("");
+    if moving.pages_as.is_some() || !is_dots(text) {
+        return Ok(None);
+    }
+    let address = address_of(RelativePath::new(page.path.as_str()));
+    let place = address.join_normalized(alloc, RelativePath::new(text))?;
+    moving.left_index(alloc, place.as_relative_path())
+}
+
+// Whether a text is `.` and `..` with slashes between them, or the like.
+fn is_dots(text: &str) -> bool {
+    text.starts_with('.') && text.bytes().all(|byte| byte == b'.' || byte == b'/')
 }
 
 // The number of the move of what the target of an edit leads to from its page's directory, if there is one.

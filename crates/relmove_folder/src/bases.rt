@@ -1,5 +1,5 @@
 //! The directories from which the paths in a file can lead.
-use crate::addresses::without_extension;
+use crate::addresses::address_of;
 use crate::extensions::is_data;
 use crate::slugs::address_path;
 use crate::tree::normal_text;
@@ -135,7 +135,7 @@ impl Addresses {
         };
         if is_page(path) {
             addresses.add(alloc, directory(path), directory(new))?;
-            addresses.add(alloc, without_extension(path), without_extension(new))?;
+            addresses.add(alloc, address_of(path), address_of(new))?;
         }
         Ok(addresses)
     }
@@ -178,8 +178,8 @@ pub fn bases_of<'t>(
     })?;
     if is_page(path) {
         bases.push(Base {
-            before: without_extension(path),
-            after: without_extension(new),
+            before: address_of(path),
+            after: address_of(new),
             is_top: false,
         })?;
     }

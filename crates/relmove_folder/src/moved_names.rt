@@ -2,7 +2,7 @@
 use crate::extensions::is_searched;
 use crate::moving_tree::MovingTree;
 use crate::slugs::address_path;
-use crate::tree::{Tree, is_directory_entry};
+use crate::tree::{EntryKind, Tree, is_directory_entry};
 use relative_path::RelativePath;
 use relative_path_moves::TreeMoves;
 use relative_path_places::{NormalPath, NormalView};
@@ -119,7 +119,8 @@ fn moved_paths(alloc: Global, moving: MovingTree<'_, '_>) -> Result<Vec<NormalPa
     Ok(olds)
 }
 
-// The paths of all entries, if a file moves that is searched, and none otherwise.
+// The paths of all entries, if a file moves that is searched, and none otherwise. Those of directories come last, since a path to
+// a directory stands for its index page, if it has one.
 fn paths_for_moved(
     alloc: Global,
     tree: &Tree,
@@ -134,8 +135,15 @@ fn paths_for_moved(
     {
         return Ok(paths);
     }
-    for path in tree.entries.keys() {
-        paths.push(NormalPath::of(alloc, RelativePath::new(path.as_str()))?)?;
+    for (path, kind) in &tree.entries {
+        if *kind != EntryKind::Directory {
+            paths.push(NormalPath::of(alloc, RelativePath::new(path.as_str()))?)?;
+        }
+    }
+    for (path, kind) in &tree.entries {
+        if *kind == EntryKind::Directory {
+            paths.push(NormalPath::of(alloc, RelativePath::new(path.as_str()))?)?;
+        }
     }
     Ok(paths)
 }

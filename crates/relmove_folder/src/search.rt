@@ -5,7 +5,7 @@ use crate::moved_names::{KnownNames, Names};
 use crate::moving_tree::MovingTree;
 use crate::places::{MentionPlace, MentionPlaces};
 use crate::position::Positions;
-use crate::targets::{PageTargets, Rewritten};
+use crate::targets::PageTargets;
 use crate::words::{is_taken_for_path, written_at};
 use relative_path::{RelativePath, RelativePathBuf};
 use relative_path_places::{NormalView, directory};
@@ -106,7 +106,7 @@ impl<'p> Search<'_, '_, 'p> {
         file: SearchedFile<'_, '_>,
         bases: &[Base<'_>],
         targets: &PageTargets,
-        mention: Mention<'_>,
+        mention: Mention<'p>,
         places: &mut Vec<OldPathAt>,
     ) -> Result<(), AllocError> {
         if !is_taken_for_path(alloc, file.path, file.text, &mention)? {
@@ -129,7 +129,7 @@ impl<'p> Search<'_, '_, 'p> {
         file: SearchedFile<'_, '_>,
         bases: &[Base<'_>],
         targets: &PageTargets,
-        mention: Mention<'_>,
+        mention: Mention<'p>,
     ) -> Result<Option<String>, AllocError> {
         if let Some(place) = self.file_at(alloc, file, mention)? {
             let is_right = self.is_right_file(alloc, file, mention, place.as_relative_path())?;
@@ -139,15 +139,15 @@ impl<'p> Search<'_, '_, 'p> {
                 Some(place.into_string())
             });
         }
-        let is_right = match targets.rewritten_at(mention.span) {
-            Some(target) => self.is_right_anew(alloc, file, target, mention)?,
-            None => self.is_right(alloc, file, bases, mention)?,
+        let written = written_at(file.text, mention.span);
+        let after = match targets.rewritten_at(mention.span) {
+            Some(target) => target.path(),
+            None => written,
         };
-        if is_right {
-            return Ok(None);
+        match self.lost_from(alloc, file, bases, mention.path, (written, after))? {
+            Some(old) => Ok(Some(String::from_str(alloc, old.as_relative_path().as_str())?)),
+            None => Ok(None),
         }
-        let old = mention.path.as_relative_path().as_str();
-        Ok(Some(String::from_str(alloc, old)?))
     }
 
     // The file that is there where a mention leads from the directory of its file without another ending. Among values a
@@ -188,46 +188,31 @@ impl<'p> Search<'_, '_, 'p> {
         Ok(after.as_relative_path() == moved.as_relative_path())
     }
 
-    // Whether a target that led to no file, and gets a new text, then leads to the new path of the page that its old text
-    // mentions.
-    fn is_right_anew(
-        &self,
-        alloc: Global,
-        file: SearchedFile<'_, '_>,
-        target: &Rewritten,
-        mention: Mention<'_>,
-    ) -> Result<bool, AllocError> {
-        let place = RelativePath::new(target.file.as_str());
-        let moved = self.moving.moves.path_after(alloc, place)?;
-        let text = moved.as_relative_path().as_str();
-        let root = Base {
-            before: RelativePath::new(""),
-            after: RelativePath::new(""),
-            is_top: false,
-        };
-        let after = self.path_after(alloc, file, root, text)?;
-        self.is_moved_to(alloc, mention.path, after)
-    }
-
-    // Whether a mention is right after the moves: from the first of the bases from which it leads to a path, it then leads to
-    // the new path of that. So it is, for example, if its file moves along.
-    fn is_right(
+    // The path to which a text leads that mentions an old path, if the text that is there after the moves doesn't lead to its new
+    // path. A text leads from each directory of its file, since it isn't known which one a reader takes, and else from a top.
+    fn lost_from(
         &self,
         alloc: Global,
         file: SearchedFile<'_, '_>,
         bases: &[Base<'_>],
-        mention: Mention<'_>,
-    ) -> Result<bool, AllocError> {
-        let written = written_at(file.text, mention.span);
+        mentioned: NormalView<'p>,
+        (before, after): (&str, &str),
+    ) -> Result<Option<NormalView<'p>>, AllocError> {
         let names = self.names_for(file);
+        let mut leads = false;
         for base in bases {
-            let old = path_from(alloc, names, base.before, base.is_top, written)?;
-            if let Some(old) = old {
-                let after = self.path_after(alloc, file, *base, written)?;
-                return self.is_moved_to(alloc, old, after);
+            if base.is_top && leads {
+                return Ok(None);
+            }
+            if let Some(old) = path_from(alloc, names, base.before, base.is_top, before)? {
+                let new = self.path_after(alloc, file, *base, after)?;
+                if !self.is_moved_to(alloc, old, new)? {
+                    return Ok(Some(old));
+                }
+                leads = true;
             }
         }
-        Ok(false)
+        Ok(if leads { None } else { Some(mentioned) })
     }
 
     // The path to which a text leads from a base after the moves: what has moved, or for a file that moves what stays. `None` if

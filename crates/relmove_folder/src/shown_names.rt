@@ -1,5 +1,6 @@
 //! The moves of the names under which a site shows its pages.
 use crate::pages_as::{PagesAs, ShownMove};
+use crate::slugs::address_path;
 use crate::tree::{EntryKind, Tree};
 use relative_path::{RelativePath, RelativePathBuf};
 use relative_path_moves::TreeMoves;
@@ -9,7 +10,8 @@ use std::collections::BTreeSet;
 
 /// The moves of the names under which a site shows the pages that have a move of their own: of `a.html` to `b.html` if `a.md`
 /// moves to `b.md`. There is none for a page if something else is at one of the names, if its extension isn't `md`, if the
-/// site shows it as its directory, as it does an index page, or if the page says itself under which address it is shown.
+/// site shows it as its directory, as it does an index page, if the page says itself under which address it is shown, or if the
+/// site may show the new path at another address than the path.
 ///
 /// Allocates the names, and if there may be one, the new path of each entry.
 pub fn shown_moves(
@@ -23,7 +25,7 @@ pub fn shown_moves(
     for a in moves.moves() {
         let old = a.old.normal().as_relative_path();
         let new = a.new.normal().as_relative_path();
-        if apart.contains(old.as_str()) {
+        if apart.contains(old.as_str()) || gets_other_address(alloc, old, new, form)? {
             continue;
         }
         if let Some(old) = name_before(alloc, tree, old, form)?
@@ -36,6 +38,22 @@ pub fn shown_moves(
         return Ok(Vec::new(alloc));
     }
     free_moves(alloc, &paths_after(alloc, tree, moves)?, shown)
+}
+
+// Whether a site may show a page at another address than its new path, as Hugo shows `My Page.md` as `my-page/`. A site that
+// showed it at its old path, though that isn't such an address, doesn't.
+fn gets_other_address(
+    alloc: Global,
+    old: RelativePath<'_>,
+    new: RelativePath<'_>,
+    form: PagesAs,
+) -> Result<bool, AllocError> {
+    if form != PagesAs::Directory {
+        return Ok(false);
+    }
+    let before = address_path(alloc, old.as_str())?;
+    let after = address_path(alloc, new.as_str())?;
+    Ok(before.is_none() && after.is_some())
 }
 
 // The paths of the pages that say themselves under which address a site shows them.

@@ -1,5 +1,5 @@
 //! The targets of a page that the search for old paths has to know.
-use crate::addresses::{FromAddress, MovedPage, from_address};
+use crate::addresses::{FromAddress, MovedPage, from_address, left_from_address};
 use crate::moving_tree::MovingTree;
 use crate::presence::{Presence, presence_at};
 use crate::tree::Page;
@@ -44,7 +44,10 @@ impl PageTargets {
                 FromAddress::No if is_slash_alone(moved.page, edit) => {
                     targets.add_slash(alloc, moving, tops, edit)?
                 }
-                FromAddress::No => targets.add(alloc, moving, edit)?,
+                FromAddress::No => match left_from_address(alloc, moving, moved.page, edit)? {
+                    Some(old) => targets.add_lost(edit, old, None)?,
+                    None => targets.add(alloc, moving, edit)?,
+                },
                 FromAddress::Kept => targets.read.push(span_of(edit))?,
                 FromAddress::Lost(old, number) => targets.add_lost(edit, old, number)?,
             }
@@ -98,9 +101,12 @@ impl PageTargets {
                 self.read.push(span)?;
                 Ok(())
             }
-            (Some(file), change) => {
-                let is_new = *change != Change::Kept;
-                self.add_path(alloc, moving, span, file.as_relative_path(), is_new)
+            (Some(file), Change::New(text)) => {
+                let file = file.as_relative_path();
+                self.add_path(alloc, moving, span, file, Some(text.as_str()))
+            }
+            (Some(file), Change::Kept) => {
+                self.add_path(alloc, moving, span, file.as_relative_path(), None)
             }
         }
     }
@@ -114,7 +120,7 @@ impl PageTargets {
         moving: MovingTree<'_, '_>,
         span: TextSpan,
         file: RelativePath<'_>,
-        is_new: bool,
+        new: Option<&str>,
     ) -> Result<(), AllocError> {
         if let Some(old) = moving.left_index(alloc, file)? {
             self.lost.push(LostTarget {
@@ -126,17 +132,30 @@ impl PageTargets {
             return Ok(());
         }
         if presence_at(moving.tree, file.as_str()) == Presence::Absent {
-            if is_new && moving.is_shown_name(file.as_str()) {
-                self.read.push(span)?;
-            } else if is_new {
-                let file = String::from_str(alloc, file.as_str())?;
-                self.rewritten.push(Rewritten { span, file })?;
-            }
-            return Ok(());
+            return match new {
+                Some(_) if moving.is_shown_name(file.as_str()) => {
+                    self.read.push(span)?;
+                    Ok(())
+                }
+                Some(text) => self.add_rewritten(alloc, span, text),
+                None => Ok(()),
+            };
         }
-        if is_new || !moving.is_staying_directory(file.as_str()) {
+        if new.is_some() || !moving.is_staying_directory(file.as_str()) {
             self.read.push(span)?;
         }
+        Ok(())
+    }
+
+    // Adds a target that leads to nothing, and gets a new text.
+    fn add_rewritten(
+        &mut self,
+        alloc: Global,
+        span: TextSpan,
+        text: &str,
+    ) -> Result<(), AllocError> {
+        let text = String::from_str(alloc, text)?;
+        self.rewritten.push(Rewritten { span, text })?;
         Ok(())
     }
 
@@ -190,6 +209,17 @@ pub struct LostTarget {
 pub struct Rewritten {
     /// Its span.
     pub span: TextSpan,
-    /// Where it leads.
-    pub file: String,
+    /// Its new text.
+    pub text: String,
+}
+
+impl Rewritten {
+    /// The new text without a query and a fragment. Allocates nothing.
+    pub fn path(&self) -> &str {
+        let text = self.text.as_str();
+        match text.find(['?', '#']) {
+            Some(end) => text.get(..end).unwrap_or(""),
+            None => text,
+        }
+    }
 }

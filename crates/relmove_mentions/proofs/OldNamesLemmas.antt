@@ -26,7 +26,7 @@ use Rattle.relative_path_places.specs.Views.{view_text}
 use Rattle.relative_path_places.specs.declared.normal_view.NormalView.{NormalView}
 use Rattle.relmove_mentions.proofs.FirstLemmas.{IsFirst-Contains, IsFirst-append, IsFirst-append_cases, IsFirst-holds, IsFirst-push, IsFirst-unique, first, first_or_rest, rest}
 use Rattle.relmove_mentions.specs.Bases.{base_components, base_text}
-use Rattle.relmove_mentions.specs.NameHashes.{hash_of, last_hash, last_two_hash, name_alone, two_hash}
+use Rattle.relmove_mentions.specs.NameHashes.{hash_of, last_hash, last_three_hash, last_two_hash, name_alone, short_hash, two_hash}
 use Rattle.relmove_mentions.specs.declared.bases.Base.{Base}
 use Rattle.relmove_mentions.specs.First.{IsFirst}
 use Rattle.relmove_mentions.specs.Hashes.{may_have}
@@ -49,11 +49,15 @@ abbrev pub HasLast : OldNames → OldNames → List ℕ → List ℕ → Type 0
 HasLast old new text path = (n : List ℕ) → (file_name_of text ≡ Some n → HasLastName new path n)
     × ((other : List ℕ) → HasLastName old other n → HasLastName new other n)
 
--- the set has the last two names of the text, and those that it had
+-- the set has the hash, if it is that of the last two or three names of the text, or if it had it
+pub record HasHash (old new : OldNames) (text : List ℕ) (hash : ℕ) : Type 0 where
+  pub two : last_two_hash (components text) ≡ Some hash → may_have new.last_twos hash ≡ true
+  pub three : last_three_hash (components text) ≡ Some hash → may_have new.last_twos hash ≡ true
+  pub keeps : may_have old.last_twos hash ≡ true → may_have new.last_twos hash ≡ true
+
+-- it has each such hash
 abbrev pub HasLastTwo : OldNames → OldNames → List ℕ → Type 0
-HasLastTwo old new text = (hash : ℕ)
-    → (last_two_hash (components text) ≡ Some hash → may_have new.last_twos hash ≡ true)
-    × (may_have old.last_twos hash ≡ true → may_have new.last_twos hash ≡ true)
+HasLastTwo old new text = (hash : ℕ) → HasHash old new text hash
 
 -- the last name of a list that leads to a name is that of the name's normal text
 last_name-normal : (steps front : List Step) (n text : List ℕ) → IsNormalTextOf steps text
@@ -73,6 +77,17 @@ two_names cs d n =
     ∙ ap (λ ds. two_hash (last_hash ds) (Some (hash_of n))) (kept-name (cs ++ named d ∷ []) n)
     ∙ ap (λ m. two_hash (option_map hash_of m) (Some (hash_of n))) (last_name-name cs d)
 
+-- the last three names of a list
+three_names : (cs : List Step) (d m n : List ℕ)
+    → last_three_hash (((cs ++ named d ∷ []) ++ named m ∷ []) ++ named n ∷ [])
+    ≡ two_hash (Some (hash_of d)) (two_hash (Some (hash_of m)) (Some (hash_of n)))
+three_names cs d m n =
+    let two : List Step = (cs ++ named d ∷ []) ++ named m ∷ [] in
+    ap (two_hash (last_hash (kept (kept (two ++ named n ∷ []))))) (two_names (cs ++ named d ∷ []) m n)
+    ∙ ap (λ ds. two_hash (last_hash (kept ds)) (two_hash (Some (hash_of m)) (Some (hash_of n)))) (kept-name two n)
+    ∙ ap (λ ds. two_hash (last_hash ds) (two_hash (Some (hash_of m)) (Some (hash_of n)))) (kept-name (cs ++ named d ∷ []) m)
+    ∙ ap (λ a. two_hash (option_map hash_of a) (two_hash (Some (hash_of m)) (Some (hash_of n)))) (last_name-name cs d)
+
 -- the same for the last two names
 last_two-normal : (steps front : List Step) (d n text : List ℕ) → IsNormalTextOf steps text
     → IsSame (front ++ named d ∷ named n ∷ []) steps → last_two_hash (components text) ≡ two_hash (Some (hash_of d)) (Some (hash_of n))
@@ -89,11 +104,31 @@ last_two-normal steps front d n text normal same =
     sym (normal_unique two (components text) is_normal normal.normal_text.normal leads) in
     ap last_two_hash is ∙ two_names ds d n
 
+-- and for the last three
+last_three-normal : (steps front : List Step) (d m n text : List ℕ) → IsNormalTextOf steps text
+    → IsSame (front ++ named d ∷ named m ∷ named n ∷ []) steps
+    → last_three_hash (components text) ≡ two_hash (Some (hash_of d)) (two_hash (Some (hash_of m)) (Some (hash_of n)))
+last_three-normal steps front d m n text normal same =
+    let (ds, form) = IsNormalForm-some front in
+    let three : List Step = ((ds ++ named d ∷ []) ++ named m ∷ []) ++ named n ∷ [] in
+    let is_normal : IsNormal three =
+    IsNormal-push_name ((ds ++ named d ∷ []) ++ named m ∷ []) n
+    (IsNormal-push_name (ds ++ named d ∷ []) m (IsNormal-push_name ds d form.normal)) in
+    let joined : ds ++ named d ∷ named m ∷ named n ∷ [] ≡ three =
+    sym (append_assoc ds (named d ∷ []) (named m ∷ named n ∷ []))
+    ∙ sym (append_assoc (ds ++ named d ∷ []) (named m ∷ []) (named n ∷ [])) in
+    let leads : IsSame three (components text) =
+    IsSame-trans (IsSame-sym (subst (IsSame (front ++ named d ∷ named m ∷ named n ∷ [])) joined
+    (IsSame-append_right (named d ∷ named m ∷ named n ∷ []) form.same))) (IsSame-trans same normal.same) in
+    let is : components text ≡ three =
+    sym (normal_unique three (components text) is_normal normal.normal_text.normal leads) in
+    ap last_three_hash is ∙ three_names ds d m n
+
 pub Lists-insert : (names : List PathName) (path : NormalView) (name : List Step) (old new : OldNames)
     (text : List ℕ) → IsNormalTextOf name text → IsInserted old new text path → HasLast old new text (view_text path)
     → HasLastTwo old new text → Lists names old → Lists (names ++ (view_text path, name) ∷ []) new
 Lists-insert names path name old new text normal inserted has_last has_two lists =
-    record { only = only; each = each; last = last; last_two = last_two } where
+    record { only = only; each = each; last = last; last_two = last_two; last_three = last_three } where
       new_pair : PathName
       new_pair = (view_text path, name)
 
@@ -166,11 +201,25 @@ Lists-insert names path name old new text normal inserted has_last has_two lists
       last_two o steps front d n has same =
           let two = (hash_of d * 1000003 % 2 ^ 64 + hash_of n) % 2 ^ 64 in
           elim (Contains-push_cases names (view_text path, name) (o, steps) has) [
-            | inl before ↦ (has_two two).1 (lists.last_two o steps front d n before same)
+            | inl before ↦ (has_two two).keeps (lists.last_two o steps front d n before same)
             | inr is ↦
                 let of_name : IsSame (front ++ named d ∷ named n ∷ []) name =
                 subst (IsSame (front ++ named d ∷ named n ∷ [])) (sym (ap (λ pair. pair.1) is)) same in
-                (has_two two).0 (last_two-normal name front d n text normal of_name)
+                (has_two two).two (last_two-normal name front d n text normal of_name)
+          ]
+
+      last_three : (o : List ℕ) (steps front : List Step) (d m n : List ℕ) → Contains more (o, steps)
+          → IsSame (front ++ named d ∷ named m ∷ named n ∷ []) steps
+          → may_have_two new (two_hash (Some (hash_of d)) (two_hash (Some (hash_of m)) (Some (hash_of n)))) ≡ true
+      last_three o steps front d m n has same =
+          let two = (hash_of m * 1000003 % 2 ^ 64 + hash_of n) % 2 ^ 64 in
+          let three = (hash_of d * 1000003 % 2 ^ 64 + two) % 2 ^ 64 in
+          elim (Contains-push_cases names (view_text path, name) (o, steps) has) [
+            | inl before ↦ (has_two three).keeps (lists.last_three o steps front d m n before same)
+            | inr is ↦
+                let of_name : IsSame (front ++ named d ∷ named m ∷ named n ∷ []) name =
+                subst (IsSame (front ++ named d ∷ named m ∷ named n ∷ [])) (sym (ap (λ pair. pair.1) is)) same in
+                (has_two three).three (last_three-normal name front d m n text normal of_name)
           ]
 
 -- ---- each name of each path
@@ -518,6 +567,42 @@ LeadsToPath-two olds set base cs old has is_old first_leads =
           IsSame-two (base ++ cs) base d n (IsSame-append_left base alone) above in
           has.lists.last_two old leads.name (kept base) d n (all_names-Contains olds old leads.name is_old leads.is_name)
           (IsSame-trans (IsSame-sym same) leads.same)
+
+-- and the last name of a directory, and then two names
+LeadsToPath-three : (olds : List (List ℕ)) (set : OldNames) (base cs : List Step) (old : List ℕ) → Has olds set
+    → Contains olds old → LeadsToPath olds (base ++ cs) old → has_steps (kept (kept cs)) ≡ false
+    → may_have_two set (two_hash (last_hash base) (last_two_hash cs)) ≡ true
+LeadsToPath-three olds set base cs old has is_old first_leads none =
+    of (last_name base) (last_name (kept cs)) (last_name cs) refl refl refl where
+      of : (b a l : Option (List ℕ)) → last_name base ≡ b → last_name (kept cs) ≡ a → last_name cs ≡ l
+          → may_have_two set (two_hash (option_map hash_of b) (two_hash (option_map hash_of a) (option_map hash_of l))) ≡ true
+      of b a None above middle is = refl
+      of b None (Some n) above middle is = refl
+      of None (Some m) (Some n) above middle is = refl
+      of (Some d) (Some m) (Some n) above middle is =
+          let leads : LeadsToName (base ++ cs) old = IsFirst-holds (LeadsToName (base ++ cs)) olds old first_leads in
+          let two : IsSame cs (named m ∷ named n ∷ []) =
+          subst (λ front. IsSame cs (front ++ named m ∷ named n ∷ [])) (has_steps-none (kept (kept cs)) none)
+          (IsSame-two cs (kept cs) m n (IsSame-last_name cs n is) middle) in
+          let same : IsSame (base ++ cs) (kept base ++ named d ∷ named m ∷ named n ∷ []) =
+          subst (IsSame (base ++ cs)) (append_assoc (kept base) (named d ∷ []) (named m ∷ named n ∷ []))
+          (IsSame-trans (IsSame-append_left base two)
+          (IsSame-append_right (named m ∷ named n ∷ []) (IsSame-last_name base d above))) in
+          has.lists.last_three old leads.name (kept base) d m n
+          (all_names-Contains olds old leads.name is_old leads.is_name) (IsSame-trans (IsSame-sym same) leads.same)
+
+-- and then one name or two
+pub LeadsToPath-short : (olds : List (List ℕ)) (set : OldNames) (base cs : List Step) (old : List ℕ) → Has olds set
+    → Contains olds old → LeadsToPath olds (base ++ cs) old → may_have_two set (two_hash (last_hash base) (short_hash cs)) ≡ true
+LeadsToPath-short olds set base cs old has is_old leads =
+    of (has_steps (kept cs)) (has_steps (kept (kept cs))) refl refl where
+      of : (more above : Bool) → has_steps (kept cs) ≡ more → has_steps (kept (kept cs)) ≡ above
+          → may_have_two set (two_hash (last_hash base) (cond more (cond above None (last_two_hash cs)) (last_hash cs))) ≡ true
+      of true true some above = refl
+      of true false some none = LeadsToPath-three olds set base cs old has is_old leads none
+      of false above none some =
+          ap (λ more. may_have_two set (two_hash (last_hash base) (cond more None (last_hash cs)))) (sym none)
+          ∙ LeadsToPath-two olds set base cs old has is_old leads
 
 -- ---- a search from one directory after another
 

@@ -27,6 +27,15 @@ last_hash cs = option_map hash_of (last_name cs)
 abbrev pub last_two_hash : List Step → Option ℕ
 last_two_hash cs = two_hash (last_hash (kept cs)) (last_hash cs)
 
+-- the hash of the last three names of a list
+abbrev pub last_three_hash : List Step → Option ℕ
+last_three_hash cs = two_hash (last_hash (kept (kept cs))) (last_two_hash cs)
+
 -- the hash of the name that a list is, apart from each `.`
 abbrev pub name_alone : List Step → Option ℕ
 name_alone cs = if has_steps (kept cs) then None else last_hash cs
+
+-- the hash of the name or the two names that a list is
+abbrev pub short_hash : List Step → Option ℕ
+short_hash cs =
+    if has_steps (kept cs) then (if has_steps (kept (kept cs)) then None else last_two_hash cs) else last_hash cs

@@ -9,7 +9,7 @@ ghost use Rattle.relative_path_places.specs.Views.{view_text};
 ghost use Rattle.relmove_mentions.specs.Bases.{base_components};
 ghost use Rattle.relmove_mentions.specs.Endings.{IsCandidate, ending_of, may_end};
 ghost use Rattle.relmove_mentions.specs.Mentions.{AreMentionsBefore, HaveAtMost, HaveOthersFrom, IsMention, spans_of};
-ghost use Rattle.relmove_mentions.specs.NameHashes.{hash_of, name_alone, two_hash};
+ghost use Rattle.relmove_mentions.specs.NameHashes.{hash_of, short_hash, two_hash};
 ghost use Rattle.relmove_mentions.specs.OldNames.{Finds, Has, WithOthers, may_have_two};
 ghost use Rattle.relmove_mentions.specs.Spans.{
   ArePassed,
@@ -40,7 +40,7 @@ use crate::bases::Base;
 use crate::endings::{Ending, with_word};
 use crate::file_text::FileText;
 use crate::hashes::Hashes;
-use crate::name_hashes::{hash_of, last_two_hash, name_alone, two_hash};
+use crate::name_hashes::{hash_of, last_two_hash, short_hash, two_hash};
 use crate::old_names::OldNames;
 use crate::searched_file::{SearchedFile, bases_of};
 use crate::text_span::{TextSpan, is_apart, is_bounded_after, is_bounded_before, is_path_byte};
@@ -464,30 +464,30 @@ impl<'p> OldNames<'p> {
             → Finds olds (WithOthers others
             (LeadsFrom olds (map base_components bases.now) (path_components path.entry))) found) }
     {
-        let name = name_alone(path);
+        let short = short_hash(path);
         for base in bases {
-            if let Some(old) = self.find_below(alloc, *base, others, path, name)? {
+            if let Some(old) = self.find_below(alloc, *base, others, path, short)? {
                 return Ok(Some(old));
             }
         }
         Ok(None)
     }
 
-    // Returns such an old path to which a base and then a path lead. If the path is a name alone, this is the name's hash.
+    // Returns such an old path to which a base and then a path lead. If the path is one name or two, this is their hash.
     fn find_below(
         &self,
         alloc: Global,
         base: Base<'_>,
         others: usize,
         path: RelativePath<'_>,
-        name: Option<u64>,
+        short: Option<u64>,
     ) -> Result<Option<NormalView<'p>>, AllocError>
-        requires name { name ≡ name_alone (path_components path) }
+        requires short { short ≡ short_hash (path_components path) }
         ensures { IfOk result (λ found. (olds : List (List ℕ)) → Has olds self.now
             → Finds olds (WithOthers others
             (LeadsToPath olds (base_components base.entry ++ path_components path.entry))) found) }
     {
-        if !self.may_have_two(two_hash(base.name, name)) {
+        if !self.may_have_two(two_hash(base.name, short)) {
             return Ok(None);
         }
         self.find_joined(alloc, base.path, others, path)

@@ -1,7 +1,8 @@
 //! Hashes of the last names of paths.
 ghost use Rattle.std.specs.Prelude.{◌≡◌};
 ghost use Rattle.relative_path.specs.RelativePath.{path_components};
-ghost use Rattle.relmove_mentions.specs.NameHashes.{hash_of, last_hash, last_two_hash, name_alone, next_hash, two_hash};
+ghost use Rattle.relmove_mentions.specs.NameHashes.{hash_of, last_hash, last_three_hash, last_two_hash, next_hash, short_hash, two_hash};
+ghost use Rattle.relmove_mentions.specs.Names.{has_steps};
 
 use relative_path::RelativePath;
 use relative_path_places::directory;
@@ -52,12 +53,31 @@ pub(crate) fn last_two_hash(path: RelativePath<'_>) -> Option<u64>
     two_hash(last_hash(directory(path)), last_hash(path))
 }
 
-// Returns the hash of the name that a path is, apart from `.` components. `None` if it isn't a name alone.
-pub(crate) fn name_alone(path: RelativePath<'_>) -> Option<u64>
-    ensures { result ≡ name_alone (path_components path.entry) }
+// Returns the hash of the last three names of a path.
+pub(crate) fn last_three_hash(path: RelativePath<'_>) -> Option<u64>
+    ensures { result ≡ last_three_hash (path_components path.entry) }
 {
-    if directory(path).components().next().is_some() {
+    two_hash(last_hash(directory(directory(path))), last_two_hash(path))
+}
+
+// Returns the hash of the name or the two names that a path is, apart from `.` components at its end. `None` if it is another
+// path.
+pub(crate) fn short_hash(path: RelativePath<'_>) -> Option<u64>
+    ensures { result ≡ short_hash (path_components path.entry) }
+{
+    let above = directory(path);
+    if !has_components(above) {
+        return last_hash(path);
+    }
+    if has_components(directory(above)) {
         return None;
     }
-    last_hash(path)
+    last_two_hash(path)
+}
+
+// Returns whether a path has components.
+fn has_components(path: RelativePath<'_>) -> bool
+    ensures { result ≡ has_steps (path_components path.entry) }
+{
+    path.components().next().is_some()
 }

@@ -9,7 +9,7 @@ ghost use Rattle.relative_path.specs.Steps.{Step, components};
 ghost use Rattle.relative_path_places.specs.Views.{view_text};
 ghost use Rattle.relmove_mentions.specs.Endings.{ending_of};
 ghost use Rattle.relmove_mentions.specs.Hashes.{may_have};
-ghost use Rattle.relmove_mentions.specs.NameHashes.{last_two_hash};
+ghost use Rattle.relmove_mentions.specs.NameHashes.{last_three_hash, last_two_hash};
 ghost use Rattle.relmove_mentions.specs.Names.{
   bare_names,
   directory_names,
@@ -26,7 +26,7 @@ ghost use Rattle.relmove_mentions.specs.Spans.{others_in};
 
 use crate::endings::ending_of;
 use crate::hashes::Hashes;
-use crate::name_hashes::last_two_hash;
+use crate::name_hashes::{last_three_hash, last_two_hash};
 use crate::text_span::others_in;
 use relative_path::RelativePath;
 use relative_path_places::{NormalView, directory};
@@ -51,7 +51,7 @@ pub struct OldNames<'p> {
     pub(crate) endings: Hashes,
     // Those of the paths that have a byte that isn't a path byte.
     pub(crate) endings_with_others: Hashes,
-    // Those of the last two names.
+    // Those of the last two names, and of the last three.
     last_twos: Hashes,
     most_others: usize,
 }
@@ -203,6 +203,7 @@ impl<'p> OldNames<'p> {
             old,
         );
         insert_last_two(&mut self.last_twos, normal.as_relative_path());
+        insert_last_three(&mut self.last_twos, normal.as_relative_path());
         let text = normal.into_string();
         self.by_text.entry(text)?.or_insert(old);
         Ok(())
@@ -222,7 +223,7 @@ impl<'p> OldNames<'p> {
         self.endings.may_have(ending_of(name.as_bytes()).hash)
     }
 
-    // Returns whether a name of an old path may end in two names with this hash. If there is no hash, it may.
+    // Returns whether a name of an old path may end in two or three names with this hash. If there is no hash, it may.
     #[inline]
     pub(crate) fn may_have_two(&self, two: Option<u64>) -> bool
         ensures { result ≡ may_have_two self.now two }
@@ -284,6 +285,17 @@ fn insert_last_two(last_twos: &mut Hashes, path: RelativePath<'_>)
 {
     if let Some(hash) = last_two_hash(path) {
         last_twos.insert(hash);
+    }
+}
+
+// Inserts the last three names of a path.
+fn insert_last_three(last_threes: &mut Hashes, path: RelativePath<'_>)
+    ensures has { (hash : ℕ) → last_three_hash (path_components path.entry) ≡ Some hash
+        → may_have last_threes.new hash ≡ true }
+    ensures keeps { (hash : ℕ) → may_have last_threes.old hash ≡ true → may_have last_threes.new hash ≡ true }
+{
+    if let Some(hash) = last_three_hash(path) {
+        last_threes.insert(hash);
     }
 }
 

@@ -4,7 +4,7 @@ use Rattle.std.proofs.lemmas.Map.Text.{text_keys}
 use Rattle.relative_path.specs.Steps.{components}
 use Rattle.relative_path.specs.Naming.{file_name_of}
 use Rattle.relmove_mentions.specs.Endings.{ending_of}
-use Rattle.relmove_mentions.specs.NameHashes.{last_two_hash}
+use Rattle.relmove_mentions.specs.NameHashes.{last_three_hash, last_two_hash}
 use Rattle.relative_path.specs.RelativePath.{path_components}
 use Rattle.relmove_mentions.proofs.OldNamesLemmas.{Lists-insert}
 use Rattle.relmove_mentions.proofs.old_names.OldNames.insert.Goals as goal
@@ -26,9 +26,14 @@ returns-clause-lists c = λ names lists.
         with_others = λ some. c.insert_ending_with_others.ensures.keeps (ending_of n).hash (had.with_others some);
       }),
     ))
-    (λ hash. (
-      λ is.
-          c.insert_last_two.ensures.has hash
-          (ap (λ t. last_two_hash (components t)) (c.as_relative_path-3.ensures ∙ sym c.into_string-text.ensures.text) ∙ is),
-      c.insert_last_two.ensures.keeps hash,
-    )) lists
+    (λ hash.
+    let text = sym c.into_string-text.ensures.text in
+    record {
+      two = λ is.
+          c.insert_last_three.ensures.keeps hash
+          (c.insert_last_two.ensures.has hash (ap (λ t. last_two_hash (components t)) (c.as_relative_path-3.ensures ∙ text) ∙ is));
+      three = λ is.
+          c.insert_last_three.ensures.has hash
+          (ap (λ t. last_three_hash (components t)) (c.as_relative_path-4.ensures ∙ text) ∙ is);
+      keeps = λ had. c.insert_last_three.ensures.keeps hash (c.insert_last_two.ensures.keeps hash had);
+    }) lists
