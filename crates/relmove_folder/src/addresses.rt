@@ -1,6 +1,6 @@
 //! Where links lead on a site that shows a page `a.md` as `a/`: from the addresses of pages.
 use crate::moving_tree::MovingTree;
-use crate::pages_as::{PagesAs, ends_in_dots, shown_page};
+use crate::pages_as::{PagesAs, shown_page};
 use crate::tree::{EntryKind, Page, Tree};
 use relative_path::{RelativePath, RelativePathBuf};
 use relative_path_links::{Change, Edit, SiteRoot};
@@ -10,8 +10,8 @@ use relmove_mentions::{INDEX_NAMES, is_index_page, is_page};
 use std::alloc::{AllocError, Global};
 use target_paths::TargetReading;
 
-// The path of what a site shows where a path leads from the address of a page, if the path has a slash at its end, or ends in
-// `.` or `..`. `None` if nothing is there.
+// The path of what a site shows where a path leads from the address of a page, if the path may be one to a page's address. `None`
+// if nothing is there.
 pub(crate) fn shown_from(
     alloc: Global,
     tree: &Tree,
@@ -24,16 +24,18 @@ pub(crate) fn shown_from(
     }
 }
 
-// Where a path leads from the address of a page, if it has a slash at its end, or ends in `.` or `..`.
+// Where a path leads from the address of a page, if it may be one to a page's address: if it ends in a slash, or its last name has
+// no extension.
 fn place_from(
     alloc: Global,
     page: RelativePath<'_>,
     path: &str,
 ) -> Result<Option<RelativePathBuf>, AllocError> {
-    if !(path.ends_with('/') || path == "." || path == ".." || ends_in_dots(path)) {
+    let relative = RelativePath::new(path);
+    if path.is_empty() || !(path.ends_with('/') || relative.extension().is_none()) {
         return Ok(None);
     }
-    let place = address_of(page).join_normalized(alloc, RelativePath::new(path))?;
+    let place = address_of(page).join_normalized(alloc, relative)?;
     Ok(Some(place))
 }
 

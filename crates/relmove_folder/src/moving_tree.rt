@@ -42,7 +42,9 @@ impl MovingTree<'_, '_> {
 
     /// Whether a path is a name under which the site shows a page that moves, and links to it move along. Allocates nothing.
     pub fn is_shown_name(&self, path: &str) -> bool {
-        self.shown.iter().any(|a| a.old.as_str() == path)
+        self.shown
+            .iter()
+            .any(|a| a.old.as_str() == path && a.new.as_str() != path)
     }
 
     /// The index page of a directory that stays, if it leaves the directory or gets another name. Allocates its path.

@@ -78,7 +78,7 @@ pub(crate) fn ends_in_dots(path: &str) -> bool {
 // The extensions of pages.
 const EXTENSIONS: [&str; 2] = ["md", "markdown"];
 
-/// A move of a name under which a site shows a page.
+/// A move of a name under which a site shows a page. If the name stays, although the page moves, both are one.
 #[derive(Debug, PartialEq, Eq, Drop)]
 pub struct ShownMove {
     /// The name before the move.

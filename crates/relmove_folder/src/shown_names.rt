@@ -9,9 +9,9 @@ use std::alloc::{AllocError, Global};
 use std::collections::BTreeSet;
 
 /// The moves of the names under which a site shows the pages that have a move of their own: of `a.html` to `b.html` if `a.md`
-/// moves to `b.md`. There is none for a page if something else is at one of the names, if its extension isn't `md`, if the
-/// site shows it as its directory, as it does an index page, if the page says itself under which address it is shown, or if the
-/// site may show the new path at another address than the path.
+/// moves to `b.md`. There is none for a page if something else is at one of the names, if its extension isn't `md`, or if the
+/// site shows it as its directory, as it does an index page. The name stays of a page that moves, perhaps with a directory, if the
+/// page says itself under which address it is shown, or if the site may show the new path at another address than the path.
 ///
 /// Allocates the names, and if there may be one, the new path of each entry.
 pub fn shown_moves(
@@ -20,24 +20,55 @@ pub fn shown_moves(
     moves: &TreeMoves<'_>,
     form: PagesAs,
 ) -> Result<Vec<ShownMove>, AllocError> {
-    let apart = pages_with_addresses(alloc, tree)?;
+    let stay = names_that_stay(alloc, tree, moves, form)?;
     let mut shown = Vec::new(alloc);
     for a in moves.moves() {
         let old = a.old.normal().as_relative_path();
         let new = a.new.normal().as_relative_path();
-        if apart.contains(old.as_str()) || gets_other_address(alloc, old, new, form)? {
-            continue;
-        }
         if let Some(old) = name_before(alloc, tree, old, form)?
             && let Some(new) = name_as(alloc, new, form)?
+            && !stay.contains(old.as_relative_path().as_str())
         {
             shown.push((old, new))?;
         }
     }
-    if shown.is_empty() {
-        return Ok(Vec::new(alloc));
+    let mut all = if shown.is_empty() {
+        Vec::new(alloc)
+    } else {
+        free_moves(alloc, &paths_after(alloc, tree, moves)?, shown)?
+    };
+    for name in &stay {
+        all.push(ShownMove {
+            old: name.clone()?,
+            new: name.clone()?,
+        })?;
     }
-    free_moves(alloc, &paths_after(alloc, tree, moves)?, shown)
+    Ok(all)
+}
+
+// The names of pages that move, and of which a site may not show the new path under its name.
+fn names_that_stay(
+    alloc: Global,
+    tree: &Tree,
+    moves: &TreeMoves<'_>,
+    form: PagesAs,
+) -> Result<BTreeSet<String>, AllocError> {
+    let mut names = BTreeSet::new(alloc);
+    for page in &tree.pages {
+        let old = RelativePath::new(page.path.as_str());
+        let new = moves.path_after(alloc, old)?;
+        let new = new.as_relative_path();
+        if new == old {
+            continue;
+        }
+        if !has_address(page.text.as_str()) && !gets_other_address(alloc, old, new, form)? {
+            continue;
+        }
+        if let Some(name) = name_before(alloc, tree, old, form)? {
+            names.insert(name.into_string())?;
+        }
+    }
+    Ok(names)
 }
 
 // Whether a site may show a page at another address than its new path, as Hugo shows `My Page.md` as `my-page/`. A site that
@@ -54,17 +85,6 @@ fn gets_other_address(
     let before = address_path(alloc, old.as_str())?;
     let after = address_path(alloc, new.as_str())?;
     Ok(before.is_none() && after.is_some())
-}
-
-// The paths of the pages that say themselves under which address a site shows them.
-fn pages_with_addresses(alloc: Global, tree: &Tree) -> Result<BTreeSet<String>, AllocError> {
-    let mut paths = BTreeSet::new(alloc);
-    for page in &tree.pages {
-        if has_address(page.text.as_str()) {
-            paths.insert(page.path.clone()?)?;
-        }
-    }
-    Ok(paths)
 }
 
 // Whether the front matter of a page gives its address.
