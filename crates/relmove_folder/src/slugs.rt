@@ -3,12 +3,7 @@ use std::alloc::{AllocError, Global};
 
 /// The path that Hugo has in its addresses for what is at a path: in lower case, with one hyphen for spaces, and without ASCII
 /// characters but letters, digits and some marks. This is the rule of `UnicodeSanitize` in Hugo 0.111, but for escapes. `None` if
-/// that is the path itself. Allocates it.
-///
-/// ```
-/// let address = address_path(alloc, "docs/How To/What's new - 2.md")?;
-/// assert_eq!(rt; address.as_deref(), Some("docs/how-to/whats-new-2.md"));
-/// ```
+/// that is the path itself: `docs/how-to/whats-new-2.md` for `docs/How To/What's new - 2.md`. Allocates it.
 pub fn address_path(alloc: Global, path: &str) -> Result<Option<String>, AllocError> {
     let mut kept = String::new(alloc);
     let mut after_space = false;
