@@ -102,7 +102,7 @@ pub fn edited(alloc: Global, page: &str, edits: &[Edit]) -> Result<String, Alloc
     // the page with the text of each edit in place of its target
     ensures text { IfOk result (λ text. string_bytes text ≡ with_edits page.now 0 edits.now) }
 {
-    let mut text = String::with_capacity(alloc, page.len())?;
+    let mut text = String::with_capacity(alloc, edited_len(page, edits))?;
     let mut at = 0;
     let mut rest = edits;
     while let Some((edit, others)) = rest.split_first() {
@@ -113,4 +113,17 @@ pub fn edited(alloc: Global, page: &str, edits: &[Edit]) -> Result<String, Alloc
     }
     text.push_str(&page[at..])?;
     Ok(text)
+}
+
+// Returns how many bytes a page has with its edits.
+fn edited_len(page: &str, edits: &[Edit]) -> usize {
+    let mut len = page.len();
+    for edit in edits {
+        if let Change::New(text) = &edit.change {
+            let target = &edit.target;
+            let old = target.end.saturating_sub(target.start);
+            len = len.saturating_sub(old).saturating_add(text.len());
+        }
+    }
+    len
 }

@@ -1,6 +1,7 @@
 //! The directories from which the paths in a file can lead.
 use crate::addresses::address_of;
 use crate::extensions::is_data;
+use crate::served::Served;
 use crate::slugs::address_path;
 use crate::tree::normal_text;
 use relative_path::RelativePath;
@@ -116,7 +117,8 @@ pub struct Base<'a> {
     pub is_top: bool,
 }
 
-/// The directories from which the paths in a page can lead, where a site's addresses have others for them.
+/// The directories from which the paths in a page can lead, where a site's addresses have others for them, or its files are
+/// served from another directory.
 #[derive(Drop)]
 pub struct Addresses {
     // Each before the moves and after them.
@@ -127,16 +129,20 @@ impl Addresses {
     /// Those of the file at a path, which is at another path after the moves. A file that is no page has none. Allocates them.
     pub fn of(
         alloc: Global,
+        served: &Served,
         path: RelativePath<'_>,
         new: RelativePath<'_>,
     ) -> Result<Addresses, AllocError> {
-        let mut addresses = Addresses {
-            pairs: Vec::new(alloc),
-        };
-        if is_page(path) {
-            addresses.add(alloc, directory(path), directory(new))?;
-            addresses.add(alloc, address_of(path), address_of(new))?;
+        if !is_page(path) {
+            return Ok(Addresses {
+                pairs: Vec::new(alloc),
+            });
         }
+        let mut addresses = Addresses {
+            pairs: served.addresses_of(alloc, path, new)?,
+        };
+        addresses.add(alloc, directory(path), directory(new))?;
+        addresses.add(alloc, address_of(path), address_of(new))?;
         Ok(addresses)
     }
 

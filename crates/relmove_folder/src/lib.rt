@@ -6,8 +6,10 @@
 //! ```text
 //! what is in the pages    dead_links  mentions
 //! parts of these          fragments  search
-//! what it knows           moved_names  targets  places  shown_names
+//! what it knows           moved_names  targets  places
+//! names that a site shows shown_names
 //! what moves, and whence  bases  words
+//! what a site serves      served
 //! the addresses of pages  addresses
 //! a tree that moves       moving_tree
 //! what is at a path       presence  seen  site_root
@@ -49,6 +51,7 @@ mod position;
 mod presence;
 mod search;
 mod seen;
+mod served;
 mod shown_names;
 mod site_root;
 mod slugs;

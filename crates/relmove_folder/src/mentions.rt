@@ -8,6 +8,7 @@ use crate::pages_as::{PagesAs, ShownMove};
 use crate::places::MentionPlaces;
 use crate::search::Search;
 use crate::seen::find;
+use crate::served::Served;
 use crate::targets::PageTargets;
 use crate::tree::{
     EntryKind, LONGEST_PAGE, TOO_LONG, Tree, is_at_or_below, is_left_out, normal_paths,
@@ -114,12 +115,14 @@ fn search_all<S: Store>(
     let all = KnownNames::of(alloc, &paths.all)?;
     let before = relative_paths(alloc, &tops.before)?;
     let after = relative_paths(alloc, &tops.after)?;
+    let served = Served::of(alloc, moving.tree, moving.moves, &tops.before)?;
     let search = Search {
         moving,
         moved: &moved,
         all: &all,
         tops: &before,
         tops_after: &after,
+        served: &served,
     };
     search.all_places(store, targets, excluded)
 }

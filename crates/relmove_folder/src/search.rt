@@ -5,6 +5,7 @@ use crate::moved_names::{KnownNames, Names};
 use crate::moving_tree::MovingTree;
 use crate::places::{MentionPlace, MentionPlaces};
 use crate::position::Positions;
+use crate::served::Served;
 use crate::targets::PageTargets;
 use crate::words::{is_taken_for_path, written_at};
 use relative_path::{RelativePath, RelativePathBuf};
@@ -25,6 +26,8 @@ pub struct Search<'a, 'm, 'p> {
     pub tops: &'a [RelativePath<'a>],
     /// The same directories after the moves.
     pub tops_after: &'a [RelativePath<'a>],
+    /// The directories of which the site serves the files as they are.
+    pub served: &'a Served,
 }
 
 impl<'p> Search<'_, '_, 'p> {
@@ -77,7 +80,7 @@ impl<'p> Search<'_, '_, 'p> {
         targets: &PageTargets,
         places: &mut Vec<OldPathAt>,
     ) -> Result<(), AllocError> {
-        let addresses = Addresses::of(alloc, file.path, file.new)?;
+        let addresses = Addresses::of(alloc, self.served, file.path, file.new)?;
         let paths = (file.path, file.new);
         let bases = bases_of(alloc, paths, &addresses, self.tops, self.tops_after)?;
         let directories = directories_of(alloc, &bases)?;

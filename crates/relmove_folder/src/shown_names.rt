@@ -61,7 +61,7 @@ fn names_that_stay(
         if new == old {
             continue;
         }
-        if !has_address(page.text.as_str()) && !gets_other_address(alloc, old, new, form)? {
+        if !has_address(page.text.as_str()) && !gets_other_address(alloc, old, new, Some(form))? {
             continue;
         }
         if let Some(name) = name_before(alloc, tree, old, form)? {
@@ -71,15 +71,15 @@ fn names_that_stay(
     Ok(names)
 }
 
-// Whether a site may show a page at another address than its new path, as Hugo shows `My Page.md` as `my-page/`. A site that
-// showed it at its old path, though that isn't such an address, doesn't.
-fn gets_other_address(
+/// Whether a site may show a page or a directory at another address than its new path, as Hugo shows `My Page.md` as `my-page/`. A
+/// site that showed it at its old path, though that isn't such an address, doesn't.
+pub(crate) fn gets_other_address(
     alloc: Global,
     old: RelativePath<'_>,
     new: RelativePath<'_>,
-    form: PagesAs,
+    form: Option<PagesAs>,
 ) -> Result<bool, AllocError> {
-    if form != PagesAs::Directory {
+    if form != Some(PagesAs::Directory) {
         return Ok(false);
     }
     let before = address_path(alloc, old.as_str())?;

@@ -2,7 +2,8 @@
 use crate::addresses::{FromAddress, MovedPage, from_address, left_from_address};
 use crate::moving_tree::MovingTree;
 use crate::presence::{Presence, presence_at};
-use crate::tree::Page;
+use crate::shown_names::gets_other_address;
+use crate::tree::{Page, is_directory_entry};
 use relative_path::RelativePath;
 use relative_path_links::{Change, Edit};
 use relmove_mentions::TextSpan;
@@ -38,7 +39,11 @@ impl PageTargets {
         moved: MovedPage<'_>,
         edits: &[Edit],
     ) -> Result<PageTargets, AllocError> {
-        let mut targets = PageTargets::new(alloc);
+        let mut targets = PageTargets {
+            read: Vec::with_capacity(alloc, edits.len())?,
+            lost: Vec::new(alloc),
+            rewritten: Vec::new(alloc),
+        };
         for edit in edits {
             match from_address(alloc, moving, moved, edit)? {
                 FromAddress::No if is_slash_alone(moved.page, edit) => {
@@ -122,7 +127,7 @@ impl PageTargets {
         file: RelativePath<'_>,
         new: Option<&str>,
     ) -> Result<(), AllocError> {
-        if let Some(old) = moving.left_index(alloc, file)? {
+        if let Some(old) = lost_directory(alloc, moving, file)? {
             self.lost.push(LostTarget {
                 start: span.start,
                 old,
@@ -171,6 +176,26 @@ impl PageTargets {
             _ => None,
         }
     }
+}
+
+// What a target to a directory no longer leads to: the index page that leaves it, or the directory itself, if it moves to where
+// the site may have another address for it.
+fn lost_directory(
+    alloc: Global,
+    moving: MovingTree<'_, '_>,
+    directory: RelativePath<'_>,
+) -> Result<Option<String>, AllocError> {
+    if let Some(index) = moving.left_index(alloc, directory)? {
+        return Ok(Some(index));
+    }
+    if !is_directory_entry(moving.tree, directory.as_str()) {
+        return Ok(None);
+    }
+    let new = moving.moves.path_after(alloc, directory)?;
+    if gets_other_address(alloc, directory, new.as_relative_path(), moving.pages_as)? {
+        return Ok(Some(String::from_str(alloc, directory.as_str())?));
+    }
+    Ok(None)
 }
 
 // Whether the target of an edit is a slash, perhaps with a query or a fragment, and isn't read, since no site's root is known.

@@ -483,8 +483,7 @@ fn refuse_moves<S: Store, E: Write>(
     CallEnd::Status(Status::Refused)
 }
 
-// Plans moves, also those that were made before the call, and prints what they do. Of the latter only the new texts of pages
-// are left to do.
+// Plans moves, also those that were made before the call, and prints what they do.
 fn plan_any<'a, 'm, S: Store, O: Write, E: Write>(
     store: &mut S,
     tree: &'a Tree,
@@ -494,18 +493,12 @@ fn plan_any<'a, 'm, S: Store, O: Write, E: Write>(
     out: &mut O,
     errors: &mut E,
 ) -> Result<(Moving<'a, 'm>, Counts, Status), CallEnd> {
-    let Some(made) = made else {
-        return plan(store, tree, moves, options, out, errors);
-    };
-    let alloc = store.alloc();
-    let mut before = StoreBefore::new(store, made);
-    let (moving, counts, status) = plan(&mut before, tree, moves, options, out, errors)?;
-    match made.actions_now(alloc, tree, &moving.plan.pages) {
-        Ok(actions) => Ok((with_actions(moving, actions), counts, status)),
-        Err(refusal) => {
-            let why = WhyRefused::Plan(refusal);
-            Err(refuse_moves(&before, tree, moves, &why, errors))
+    match made {
+        Some(made) => {
+            let mut before = StoreBefore::new(store, made);
+            plan(&mut before, tree, moves, Some(made), options, out, errors)
         }
+        None => plan(store, tree, moves, None, options, out, errors),
     }
 }
 
@@ -542,29 +535,51 @@ fn plan<'a, 'm, S: Store, O: Write, E: Write>(
     store: &mut S,
     tree: &'a Tree,
     moves: &[(&'m str, &'m str)],
+    made: Option<&MadeMoves<'m>>,
     options: MoveOptions<'_>,
     out: &mut O,
     errors: &mut E,
 ) -> Result<(Moving<'a, 'm>, Counts, Status), CallEnd> {
     let root = need_site_root(store, tree, options.site_root, errors)?;
-    let mut moving = match moving_of(store, tree, &root, options.pages_as, moves, options.rule) {
+    let moving = match moving_of(store, tree, &root, options.pages_as, moves, options.rule) {
         Ok(moving) => moving,
         Err(why) => return Err(refuse_moves(store, tree, moves, &why, errors)),
     };
-    if options.made {
-        keep_dead(store, tree, &mut moving)?;
-    }
+    let mut moving = match made {
+        Some(made) => moving_now(store, tree, moves, made, moving, errors)?,
+        None => moving,
+    };
+    empty_new_texts(store.alloc(), &mut moving.plan.pages);
     let (counts, status) = report(store, tree, moves, &mut moving, options, out, errors)?;
     Ok((moving, counts, status))
 }
 
-// Keeps the dead targets of the pages of a plan.
-fn keep_dead<S: Store>(
+// What moves do that were made before the call: dead targets stay, and of the actions only the new texts of pages are left.
+fn moving_now<'a, 'm, S: Store, E: Write>(
     store: &mut S,
     tree: &Tree,
-    moving: &mut Moving<'_, '_>,
-) -> Result<(), RunFault> {
-    keep_dead_targets(store, tree, &moving.shown, &mut moving.plan.pages)
+    moves: &[(&str, &str)],
+    made: &MadeMoves<'_>,
+    mut moving: Moving<'a, 'm>,
+    errors: &mut E,
+) -> Result<Moving<'a, 'm>, CallEnd> {
+    keep_dead_targets(store, tree, &moving.shown, &mut moving.plan.pages)?;
+    match made.actions_now(store.alloc(), tree, &moving.plan.pages) {
+        Ok(actions) => Ok(with_actions(moving, actions)),
+        Err(refusal) => {
+            let why = WhyRefused::Plan(refusal);
+            Err(refuse_moves(store, tree, moves, &why, errors))
+        }
+    }
+}
+
+// Empties the new texts of pages. The actions have them too, and of a page only whether it has one is asked after this.
+fn empty_new_texts(alloc: Global, pages: &mut [MovedSitePage]) {
+    for page in pages.iter_mut() {
+        if page.text.is_some() {
+            page.text = Some(String::new(alloc));
+        }
+    }
 }
 
 // The root of the site, by its path from the root. Fails if no directory is there.

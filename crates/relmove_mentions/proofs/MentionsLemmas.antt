@@ -72,6 +72,23 @@ AreMentionsBefore-begin olds file mentions start are = record {
   ];
 }
 
+-- nor ends where no path does
+pub AreMentionsBefore-inside : (olds : List (List ℕ)) (file : FileText) (mentions : List Mention) (start end last : ℕ)
+    → end ≤ last → ((at : ℕ) → end ≤ at → at < last → is_bounded_after file.text.now at ≡ false)
+    → AreMentionsBefore olds file mentions start end → AreMentionsBefore olds file mentions start last
+AreMentionsBefore-inside olds file mentions start end last order inside are = record {
+  sound = are.sound;
+  in_order = are.in_order;
+  before = All-weaker _ _ (λ m. IsEarlier-more m.span start end last order) mentions are.before;
+  complete = λ span old is earlier. elim earlier [
+    | inl before ↦ are.complete span old is (inl before)
+    | inr (same, before) ↦ elim (cases_lt span.end end) [
+      | inl less ↦ are.complete span old is (inr (same, less))
+      | inr more ↦ absurd (true≢false (sym is.bounded.after ∙ inside span.end more before))
+    ]
+  ];
+}
+
 -- at a span without a mention the mentions stay
 pub AreMentionsBefore-none : (olds : List (List ℕ)) (file : FileText) (mentions : List Mention) (last : TextSpan)
     → ((old : List ℕ) → Contains olds old → ¬ IsMention olds file last old)

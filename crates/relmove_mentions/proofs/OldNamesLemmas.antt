@@ -544,6 +544,36 @@ StandsFor-last_two olds set file text old has is_old stands =
           has.lists.last_two old steps (base ++ front) d n listed
           (subst (λ ds. IsSame ds steps) (sym (append_assoc base front (named d ∷ named n ∷ []))) leads))
 
+-- a list whose last names these are leads to what ends in them
+IsSame-three : (cs : List Step) (d m n : List ℕ) → last_name (kept (kept cs)) ≡ Some d → last_name (kept cs) ≡ Some m
+    → last_name cs ≡ Some n → IsSame cs (kept (kept (kept cs)) ++ named d ∷ named m ∷ named n ∷ [])
+IsSame-three cs d m n first second third =
+    let above : IsSame (kept cs) (kept (kept (kept cs)) ++ named d ∷ named m ∷ []) =
+    IsSame-two (kept cs) (kept (kept cs)) d m (IsSame-last_name (kept cs) m second) first in
+    subst (IsSame cs) (append_assoc (kept (kept (kept cs))) (named d ∷ named m ∷ []) (named n ∷ []))
+    (IsSame-trans (IsSame-last_name cs n third) (IsSame-append_right (named n ∷ []) above))
+
+-- and its last three names
+pub StandsFor-last_three : (olds : List (List ℕ)) (set : OldNames) (file : FileText) (text old : List ℕ) → Has olds set
+    → Contains olds old → StandsFor olds file text old → may_have_two set (last_three_hash (components text)) ≡ true
+StandsFor-last_three olds set file text old has is_old stands =
+    of (last_name (kept (kept cs))) (last_name (kept cs)) (last_name cs) refl refl refl where
+      cs : List Step
+      cs = components text
+
+      of : (c b a : Option (List ℕ)) → last_name (kept (kept cs)) ≡ c → last_name (kept cs) ≡ b → last_name cs ≡ a
+          → may_have_two set (two_hash (option_map hash_of c) (two_hash (option_map hash_of b) (option_map hash_of a))) ≡ true
+      of c b None first second third = refl
+      of c None (Some n) first second third = refl
+      of None (Some m) (Some n) first second third = refl
+      of (Some d) (Some m) (Some n) first second third =
+          let front = kept (kept (kept cs)) in
+          StandsFor-ends olds file text (front ++ named d ∷ named m ∷ named n ∷ []) old _ is_old
+          (IsSame-three cs d m n first second third) stands
+          (λ steps base listed leads.
+          has.lists.last_three old steps (base ++ front) d m n listed
+          (subst (λ ds. IsSame ds steps) (sym (append_assoc base front (named d ∷ named m ∷ named n ∷ []))) leads))
+
 has_steps-none : (cs : List Step) → has_steps cs ≡ false → cs ≡ []
 has_steps-none [] is = refl
 has_steps-none (c ∷ cs) is = absurd (true≢false is)

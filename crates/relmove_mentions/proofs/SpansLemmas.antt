@@ -2,7 +2,7 @@
 use Rattle.std.proofs.Common.{◌≡◌, ◌==◌, ◌++◌, inl, inr, ℕ, zero, suc, cond, ◌+◌, ◌-◌, ◌<◌, ◌≤◌, Bool, true, false, not, ◌||◌, ◌&&◌, List, [], ◌∷◌, length, take, drop, get_or, refl, sym, ap, ◌∙◌, subst, arith, length-drop, drop-cons}
 use Rattle.std.specs.Prelude.{nat_le}
 use Rattle.std.specs.List.{fold, list_all}
-use Rattle.std.proofs.lemmas.Bool.{cases_lt, eqb-true, le-leb, lt-leb, or_cases}
+use Rattle.std.proofs.lemmas.Bool.{cases_lt, eqb-true, le-leb, lt-leb, or_cases, or_parts}
 use Rattle.std.proofs.lemmas.List.{drop-drop, get_or-drop, take-take}
 use Rattle.std.proofs.lemmas.List.Sums.{fold-append, fold_more, sum_by-append, sum_by-cons, sum_by-take-le, sum_by_more}
 use Rattle.std.proofs.Math.ListN.{drop_of_length-le}
@@ -162,7 +162,7 @@ pub fold-none : (e : Ending) (text : List ℕ) (start : ℕ) → fold next_endin
 fold-none e text start = let none : start - start ≡ 0 = omega arith in ap (λ n. fold next_ending e (take n (drop start text))) none
 
 -- with one byte
-pub fold-first : (e : Ending) (text : List ℕ) (start : ℕ) → start < length text
+fold-first : (e : Ending) (text : List ℕ) (start : ℕ) → start < length text
     → fold next_ending e (take (start + 1 - start) (drop start text)) ≡ next_ending e (get_or text start 0)
 fold-first e text start within =
     fold-next e text start start (omega arith) within ∙ ap (λ f. next_ending f (get_or text start 0)) (fold-none e text start)
@@ -176,12 +176,6 @@ fold-rest e text start end order within =
     ∙ fold-append next_ending e (take (start + 1 - start) (drop start text)) (take (end - (start + 1)) (drop (start + 1) text))
     ∙ ap (λ f. fold next_ending f (take (end - (start + 1)) (drop (start + 1) text))) (fold-first e text start within)
 
--- with one more byte
-pub ending_of-next : (text : List ℕ) (start end : ℕ) → start ≤ end → end < length text
-    → ending_of (take (end + 1 - start) (drop start text))
-    ≡ next_ending (ending_of (take (end - start) (drop start text))) (get_or text end 0)
-ending_of-next text start end order within = fold-next no_ending text start end order within
-
 -- with all bytes up to a later offset
 pub ending_of-later : (text : List ℕ) (start mid end : ℕ) → start ≤ mid → mid ≤ end
     → ending_of (take (end - start) (drop start text))
@@ -189,10 +183,6 @@ pub ending_of-later : (text : List ℕ) (start mid end : ℕ) → start ≤ mid 
 ending_of-later text start mid end order within =
     ap ending_of (take-after text start mid end order within)
     ∙ fold-append next_ending no_ending (take (mid - start) (drop start text)) (take (end - mid) (drop mid text))
-
--- no byte ends in nothing
-pub ending_of-none : (text : List ℕ) (start : ℕ) → ending_of (take (start - start) (drop start text)) ≡ no_ending
-ending_of-none text start = let none : start - start ≡ 0 = omega arith in ap (λ n. ending_of (take n (drop start text))) none
 
 -- bytes before a bound don't matter
 pub ending_of-after : (text : List ℕ) (start mid end : ℕ) → start ≤ mid → mid ≤ end → end ≤ length text
@@ -209,7 +199,7 @@ ending_of-after text start mid end order within inside bounded named = elim (cas
         let before : ending_of (take (mid - start) (drop start text))
         ≡ next_ending (ending_of (take (mid - 1 - start) (drop start text))) (get_or text (mid - 1) 0) =
         ap (λ at. ending_of (take (at - start) (drop start text))) (sym last)
-        ∙ ending_of-next text start (mid - 1) (omega (arith, less)) (omega (arith, less, within, inside)) in
+        ∙ fold-next no_ending text start (mid - 1) (omega (arith, less)) (omega (arith, less, within, inside)) in
         let ended : (ending_of (take (mid - start) (drop start text))).ended ≡ true =
         ap (λ (e : Ending). e.ended) before
         ∙ next-other _ (get_or text (mid - 1) 0) (other-not_slash (get_or text (mid - 1) 0) other) other in
@@ -226,6 +216,39 @@ is_bounded_after-plain text end within path plain =
     (lt-leb (length text) end within)
     ∙ ap (λ b. not b || (get_or text end 0 == 46 && is_bounded_at text (end + 1))) path
     ∙ ap (λ b. b && is_bounded_at text (end + 1)) plain
+
+-- a byte before which no path ends goes on a path
+goes_on-inside : (text : List ℕ) (at : ℕ) → is_bounded_after text at ≡ false → is_other_byte (get_or text at 0) ≡ false
+goes_on-inside text at inside =
+    let (open_, stop) = or_parts (is_bounded_at text at) (get_or text at 0 == 46 && is_bounded_at text (at + 1)) inside in
+    let (within, goes_on) = or_parts (nat_le (length text) at) (is_other_byte (get_or text at 0)) open_ in
+    goes_on
+
+-- so many bytes before which no path ends have none of those that don't go on a path
+others_in-so_many : (text : List ℕ) (start mid n : ℕ) → start ≤ mid → mid + n ≤ length text
+    → ((at : ℕ) → mid ≤ at → at < mid + n → is_bounded_after text at ≡ false)
+    → others_in (take (mid + n - start) (drop start text)) ≡ others_in (take (mid - start) (drop start text))
+others_in-so_many text start mid zero order within inside =
+    let same : mid + 0 ≡ mid = omega arith in ap (λ end. others_in (take (end - start) (drop start text))) same
+others_in-so_many text start mid (suc n) order within inside =
+    let next : mid + suc n ≡ mid + n + 1 = omega arith in
+    let less : mid + n < mid + suc n = omega arith in
+    let none : cond {A = ℕ} (is_other_byte (get_or text (mid + n) 0)) 1 0 ≡ 0 =
+    ap (λ b. cond b 1 0) (goes_on-inside text (mid + n) (inside (mid + n) (omega arith) less)) in
+    let so_far = others_in-so_many text start mid n order (omega (arith, within, next))
+    (λ at later before. inside at later (omega (arith, before, less))) in
+    ap (λ end. others_in (take (end - start) (drop start text))) next
+    ∙ omega (arith, others_in-step text start (mid + n) (omega (arith, order)) (omega (arith, within, next)), none, so_far)
+
+-- nor have those up to an offset
+pub others_in-inside : (text : List ℕ) (start mid end : ℕ) → start ≤ mid → mid ≤ end → end ≤ length text
+    → ((at : ℕ) → mid ≤ at → at < end → is_bounded_after text at ≡ false)
+    → others_in (take (end - start) (drop start text)) ≡ others_in (take (mid - start) (drop start text))
+others_in-inside text start mid end order later within inside =
+    let same : mid + (end - mid) ≡ end = omega (arith, later) in
+    ap (λ last. others_in (take (last - start) (drop start text))) (sym same)
+    ∙ others_in-so_many text start mid (end - mid) order (omega (arith, later, within))
+    (λ at after before. inside at after (omega (arith, before, same)))
 
 -- ---- the spans after so many
 

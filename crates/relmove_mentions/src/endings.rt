@@ -82,7 +82,7 @@ impl Ending {
 }
 
 // Returns what a text ends in after one that ends so, with its bytes from an offset on: with the first of them, and with more
-// of them as long as it is clear that a path goes on.
+// of them as long as it is clear that a path goes on. The first can also end a path before they begin another.
 #[inline]
 pub(crate) fn with_word(before: Ending, text: &[u8], start: usize) -> EndingAt
     requires { start < length text.now }
@@ -93,12 +93,27 @@ pub(crate) fn with_word(before: Ending, text: &[u8], start: usize) -> EndingAt
 {
     let ending = before.then(text[start]);
     if ending.ended {
-        return EndingAt {
-            ending,
-            end: start + 1,
-        };
+        return with_next_word(ending, text, start + 1);
     }
     with_plain_bytes(ending, text, start + 1)
+}
+
+// Returns the same with the plain bytes from an offset on, if the next byte begins others.
+#[inline]
+fn with_next_word(before: Ending, text: &[u8], start: usize) -> EndingAt
+    requires within { start ≤ length text.now }
+    ensures after { start ≤ result.end }
+    ensures within { result.end ≤ length text.now }
+    ensures ending { result.ending ≡ fold next_ending before (take (result.end - start) (drop start text.now)) }
+    ensures inside { (at : ℕ) → start ≤ at → at < result.end → is_bounded_after text.now at ≡ false }
+{
+    if text.len() <= start || !is_plain_byte(text[start]) {
+        return EndingAt {
+            ending: before,
+            end: start,
+        };
+    }
+    with_plain_bytes(before.then(text[start]), text, start + 1)
 }
 
 // Returns the same with the plain bytes from an offset on, if the next byte doesn't begin others.

@@ -40,7 +40,7 @@ use crate::bases::Base;
 use crate::endings::{Ending, with_word};
 use crate::file_text::FileText;
 use crate::hashes::Hashes;
-use crate::name_hashes::{hash_of, last_two_hash, short_hash, two_hash};
+use crate::name_hashes::{hash_of, last_three_hash, last_two_hash, short_hash, two_hash};
 use crate::old_names::OldNames;
 use crate::searched_file::{SearchedFile, bases_of};
 use crate::text_span::{TextSpan, is_apart, is_bounded_after, is_bounded_before, is_path_byte};
@@ -261,8 +261,9 @@ impl<'p> OldNames<'p> {
                 return Ok(());
             };
             left = more;
-            ending = ending.then(text[end]);
-            end = offset_after(text, end);
+            let word = with_word(ending, text, end);
+            ending = word.ending;
+            end = word.end;
             let span = TextSpan { start, end };
             self.push_at(alloc, searched, passed, span, most - left, ending, mentions)?;
         }
@@ -391,6 +392,9 @@ impl<'p> OldNames<'p> {
             return Ok(None);
         }
         if !self.may_have_two(last_two_hash(path)) {
+            return Ok(None);
+        }
+        if !self.may_have_two(last_three_hash(path)) {
             return Ok(None);
         }
         if let Some(old) = self.find_from_directory(alloc, searched, others, path)? {
@@ -582,15 +586,6 @@ fn first_start_of(text: &[u8], start: usize, end: usize, wide: usize) -> usize
     } else {
         start
     }
-}
-
-// Returns the offset after that of a byte.
-#[inline]
-fn offset_after(text: &[u8], at: usize) -> usize
-    requires { at < length text.now }
-    ensures { result ≡ at + 1 }
-{
-    at + 1
 }
 
 // Returns the span after all bytes of a text.

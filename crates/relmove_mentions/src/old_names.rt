@@ -9,7 +9,6 @@ ghost use Rattle.relative_path.specs.Steps.{Step, components};
 ghost use Rattle.relative_path_places.specs.Views.{view_text};
 ghost use Rattle.relmove_mentions.specs.Endings.{ending_of};
 ghost use Rattle.relmove_mentions.specs.Hashes.{may_have};
-ghost use Rattle.relmove_mentions.specs.NameHashes.{last_three_hash, last_two_hash};
 ghost use Rattle.relmove_mentions.specs.Names.{
   bare_names,
   directory_names,
@@ -202,8 +201,14 @@ impl<'p> OldNames<'p> {
             normal.as_relative_path(),
             old,
         );
-        insert_last_two(&mut self.last_twos, normal.as_relative_path());
-        insert_last_three(&mut self.last_twos, normal.as_relative_path());
+        insert_hash(
+            &mut self.last_twos,
+            last_two_hash(normal.as_relative_path()),
+        );
+        insert_hash(
+            &mut self.last_twos,
+            last_three_hash(normal.as_relative_path()),
+        );
         let text = normal.into_string();
         self.by_text.entry(text)?.or_insert(old);
         Ok(())
@@ -277,25 +282,13 @@ fn insert_ending_with_others(endings: &mut Hashes, path: RelativePath<'_>, old: 
     }
 }
 
-// Inserts the last two names of a path.
-fn insert_last_two(last_twos: &mut Hashes, path: RelativePath<'_>)
-    ensures has { (hash : ℕ) → last_two_hash (path_components path.entry) ≡ Some hash
-        → may_have last_twos.new hash ≡ true }
-    ensures keeps { (hash : ℕ) → may_have last_twos.old hash ≡ true → may_have last_twos.new hash ≡ true }
+// Inserts a hash, if there is one.
+fn insert_hash(hashes: &mut Hashes, hash: Option<u64>)
+    ensures has { (some : ℕ) → hash ≡ Some some → may_have hashes.new some ≡ true }
+    ensures keeps { (other : ℕ) → may_have hashes.old other ≡ true → may_have hashes.new other ≡ true }
 {
-    if let Some(hash) = last_two_hash(path) {
-        last_twos.insert(hash);
-    }
-}
-
-// Inserts the last three names of a path.
-fn insert_last_three(last_threes: &mut Hashes, path: RelativePath<'_>)
-    ensures has { (hash : ℕ) → last_three_hash (path_components path.entry) ≡ Some hash
-        → may_have last_threes.new hash ≡ true }
-    ensures keeps { (hash : ℕ) → may_have last_threes.old hash ≡ true → may_have last_threes.new hash ≡ true }
-{
-    if let Some(hash) = last_three_hash(path) {
-        last_threes.insert(hash);
+    if let Some(hash) = hash {
+        hashes.insert(hash);
     }
 }
 

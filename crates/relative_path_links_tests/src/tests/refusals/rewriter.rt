@@ -142,7 +142,7 @@ fn edited_down(alloc: Global, page: &str, expected: &str) -> Result<(), Fail> {
     edited_in(alloc, &tree, &moved, page, expected)
 }
 
-// Requests: 19 38 = 1, 12 = 1, = 0
+// Requests: 25 = 1, 12 = 1, = 0
 #[test]
 fn a_page_with_its_edits(rt: HostRuntime) -> Result<(), Fail> {
     let expected = "[c](../c.md) [d](../d.md)";
@@ -196,7 +196,7 @@ fn site_moved_down(alloc: Global, text: &str, expected: Option<&str>) -> Result<
     site_moved_in(alloc, &tree, text, expected)
 }
 
-// Requests: 80 9 128 648 64 96 96 24 7 1 88 4 4 1s 4 8 7 9 18 12 128 648 64 96 96 24 = 6
+// Requests: 80 9 128 648 64 96 96 24 7 1 88 4 4 1s 4 8 7 12 12 128 648 64 96 96 24 = 6
 #[test]
 fn a_site(rt: HostRuntime) -> Result<(), Fail> {
     site_moved_down(rt.alloc(), "[c](c.md)", Some("[c](../c.md)"))
@@ -208,7 +208,7 @@ fn a_site_whose_page_stays(rt: HostRuntime) -> Result<(), Fail> {
     site_moved_down(rt.alloc(), "[c](#c)", None)
 }
 
-// Requests: 80 9 128 648 64 96 96 24 7 1 88 1 1 1s 1 6 4 3 9 18 11 128 648 64 = 4
+// Requests: 80 9 128 648 64 96 96 24 7 1 88 1 1 1s 1 6 4 3 11 11 128 648 64 = 4
 #[test]
 fn a_site_whose_page_would_read_otherwise(rt: HostRuntime) -> Result<(), Fail> {
     site_moved_down(rt.alloc(), "[x](\n<x>)", None)

@@ -1,5 +1,5 @@
 -- Each turn reads a plain byte, before which no path ends.
-use Rattle.std.proofs.Common.{Bool, ap, arith, get_or, inl, inr, not, subst, sym, ◌≡◌, ◌==◌, ◌||◌, ◌∙◌, false}
+use Rattle.std.proofs.Common.{ap, arith, get_or, inl, inr, not, subst, sym, ◌≡◌, ◌==◌, ◌||◌, ◌∙◌, false}
 use Rattle.std.proofs.lemmas.Bool.{and_parts, cases_lt, not-true, or_parts}
 use Rattle.relmove_mentions.specs.Endings.{next_ending}
 use Rattle.relmove_mentions.specs.Spans.{is_bounded_after, is_path_byte}

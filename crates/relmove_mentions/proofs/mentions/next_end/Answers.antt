@@ -1,10 +1,9 @@
 -- Each turn passes an end at which no candidate ends.
-use Rattle.std.proofs.Common.{◌≡◌, ◌≤◌, ◌-◌, ◌&&◌, drop, false, sym, take, true≢false, ap, arith, inl, inr, ◌∙◌}
+use Rattle.std.proofs.Common.{◌≡◌, ◌-◌, ◌&&◌, drop, sym, take, ap, arith, inl, inr, ◌∙◌}
 use Rattle.std.specs.List.{fold}
 use Rattle.std.proofs.lemmas.Bool.{cases_lt}
-use Rattle.relmove_mentions.specs.Endings.{IsCandidate, ending_of, may_end, next_ending}
+use Rattle.relmove_mentions.specs.Endings.{ending_of, may_end, next_ending}
 use Rattle.relmove_mentions.specs.Spans.{is_bounded_after}
-use Rattle.relmove_mentions.specs.declared.text_span.TextSpan.{TextSpan}
 use Rattle.relmove_mentions.proofs.MentionsLemmas.{ends-after_word, ends-later}
 use Rattle.relmove_mentions.proofs.SpansLemmas.{ending_of-later}
 use Rattle.relmove_mentions.proofs.mentions.next_end.Goals as goal

@@ -7,10 +7,10 @@ use Rattle.std.proofs.lemmas.Result.{IfOk-weaker}
 use Rattle.relative_path.specs.Naming.{file_name_of}
 use Rattle.relative_path.specs.RelativePath.{path_text}
 use Rattle.relative_path.specs.Steps.{components, is_slash}
-use Rattle.relmove_mentions.specs.NameHashes.{hash_of, last_two_hash, two_hash}
+use Rattle.relmove_mentions.specs.NameHashes.{hash_of, last_three_hash, last_two_hash, two_hash}
 use Rattle.relmove_mentions.specs.OldNames.{Finds, WithOthers, may_have_two}
 use Rattle.relmove_mentions.specs.Written.{LeadsFromDirectory, LeadsFromTop}
-use Rattle.relmove_mentions.proofs.OldNamesLemmas.{Finds-second, StandsFor-last, StandsFor-last_two}
+use Rattle.relmove_mentions.proofs.OldNamesLemmas.{Finds-second, StandsFor-last, StandsFor-last_three, StandsFor-last_two}
 use Rattle.relmove_mentions.specs.declared.bases.Base.{Base}
 use Rattle.relmove_mentions.proofs.WrittenLemmas.{Finds-text, StandsFor-alone}
 use Rattle.relmove_mentions.proofs.old_names.OldNames.find_text.Goals as goal
@@ -40,6 +40,15 @@ returns-then-not-may_have_two c = λ olds has old is_old (some, stands).
     true≢false
     (sym two ∙ sym (ap (may_have_two c.args.self.now) (c.last_two_hash.ensures ∙ ap (λ t. last_two_hash (components t)) is_text))
     ∙ sym c.may_have_two.ensures ∙ c.if-not-may_have_two.true)
+
+pub returns-then-not-may_have_two-2 : goal.returns-then-not-may_have_two-2
+returns-then-not-may_have_two-2 c = λ olds has old is_old (some, stands).
+    let is_text : path_text c.new-path.result ≡ c.args.text.now = c.new-path.ensures ∙ c.in-Ok.ensures.cases.0 in
+    let three = StandsFor-last_three olds c.args.self.now c.args.searched.file c.args.text.now old has is_old stands in
+    true≢false
+    (sym three
+    ∙ sym (ap (may_have_two c.args.self.now) (c.last_three_hash.ensures ∙ ap (λ t. last_three_hash (components t)) is_text))
+    ∙ sym c.may_have_two-2.ensures ∙ c.if-not-may_have_two-2.true)
 
 pub returns : goal.returns
 returns c =

@@ -30,10 +30,11 @@ returns-clause-lists c = λ names lists.
     let text = sym c.into_string-text.ensures.text in
     record {
       two = λ is.
-          c.insert_last_three.ensures.keeps hash
-          (c.insert_last_two.ensures.has hash (ap (λ t. last_two_hash (components t)) (c.as_relative_path-3.ensures ∙ text) ∙ is));
+          c.insert_hash-2.ensures.keeps hash
+          (c.insert_hash.ensures.has hash
+          (c.last_two_hash.ensures ∙ ap (λ t. last_two_hash (components t)) (c.as_relative_path-3.ensures ∙ text) ∙ is));
       three = λ is.
-          c.insert_last_three.ensures.has hash
-          (ap (λ t. last_three_hash (components t)) (c.as_relative_path-4.ensures ∙ text) ∙ is);
-      keeps = λ had. c.insert_last_three.ensures.keeps hash (c.insert_last_two.ensures.keeps hash had);
+          c.insert_hash-2.ensures.has hash
+          (c.last_three_hash.ensures ∙ ap (λ t. last_three_hash (components t)) (c.as_relative_path-4.ensures ∙ text) ∙ is);
+      keeps = λ had. c.insert_hash-2.ensures.keeps hash (c.insert_hash.ensures.keeps hash had);
     }) lists

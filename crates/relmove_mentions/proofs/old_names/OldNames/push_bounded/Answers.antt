@@ -1,10 +1,9 @@
--- Each turn tries the span that is a byte longer, until it would have one byte too many, or the text ends.
-use Rattle.std.proofs.Common.{◌≡◌, ◌+◌, ◌-◌, drop, get_or, take, ap, arith, subst, sym, ◌∙◌}
-use Rattle.relmove_mentions.specs.Endings.{ending_of, next_ending}
-use Rattle.relmove_mentions.specs.Mentions.{AreMentionsBefore}
-use Rattle.relmove_mentions.specs.Spans.{others_in}
-use Rattle.relmove_mentions.proofs.MentionsLemmas.{AreMentionsBefore-begin, AreMentionsBefore-next, ends-before_other}
-use Rattle.relmove_mentions.proofs.SpansLemmas.{ending_of-next, ending_of-none, others_in-left, others_in-none}
+-- Each turn tries the span that is a word longer, until it would have one byte too many, or the text ends.
+use Rattle.std.proofs.Common.{◌+◌, ◌-◌, drop, take, ap, arith, sym, ◌∙◌}
+use Rattle.std.specs.List.{fold}
+use Rattle.relmove_mentions.specs.Endings.{next_ending, no_ending}
+use Rattle.relmove_mentions.proofs.MentionsLemmas.{AreMentionsBefore-begin, AreMentionsBefore-inside, AreMentionsBefore-next, ends-before_other}
+use Rattle.relmove_mentions.proofs.SpansLemmas.{ending_of-later, fold-none, others_in-inside, others_in-left, others_in-none}
 use Rattle.relmove_mentions.proofs.old_names.OldNames.push_bounded.Goals as goal
 
 pub loop-end-init : goal.loop-end-init
@@ -12,7 +11,7 @@ loop-end-init c = record {
   order = omega arith;
   within = c.requires.within;
   others = omega (arith, others_in-none c.args.searched.file.text.now c.args.start);
-  ending = c.none-ending.ensures ∙ sym (ending_of-none c.args.searched.file.text.now c.args.start);
+  ending = c.none-ending.ensures ∙ sym (fold-none no_ending c.args.searched.file.text.now c.args.start);
   so_far = λ olds has before. AreMentionsBefore-begin olds c.args.searched.file c.args.mentions.now.items c.args.start before;
 }
 
@@ -30,46 +29,44 @@ pub push_at-requires-clause-others : goal.push_at-requires-clause-others
 push_at-requires-clause-others c =
     let inv = c.loop-end.invariant in
     let text = c.args.searched.file.text.now in
-    let count : others_in (take (c.offset_after-end.result - c.args.start) (drop c.args.start text)) + c.in-Some.more
-    ≡ c.most_at-most.result =
-    subst
-    (λ end. others_in (take (end - c.args.start) (drop c.args.start text)) + c.in-Some.more ≡ c.most_at-most.result)
-    (sym c.offset_after-end.ensures)
-    (others_in-left text c.args.start c.loop-end.end c.loop-end.left c.in-Some.more c.most_at-most.result inv.order
-    c.loop-end-test.true inv.others c.in-Some.ensures.some) in
-    omega (arith, count)
+    let word = c.with_word-word in
+    let first = others_in-left text c.args.start c.loop-end.end c.loop-end.left c.in-Some.more c.most_at-most.result inv.order
+    c.loop-end-test.true inv.others c.in-Some.ensures.some in
+    let rest = others_in-inside text c.args.start (c.loop-end.end + 1) word.result.end (omega (arith, inv.order))
+    (omega (arith, word.ensures.after)) word.ensures.within (λ at later. word.ensures.inside at (omega (arith, later))) in
+    omega (arith, first, rest)
 
 pub push_at-requires-clause-ending : goal.push_at-requires-clause-ending
 push_at-requires-clause-ending c =
     let inv = c.loop-end.invariant in
     let text = c.args.searched.file.text.now in
-    subst (λ end. c.then-ending.result ≡ ending_of (take (end - c.args.start) (drop c.args.start text)))
-    (sym c.offset_after-end.ensures)
-    (c.then-ending.ensures ∙ ap (λ e. next_ending e (get_or text c.loop-end.end 0)) inv.ending
-    ∙ sym (ending_of-next text c.args.start c.loop-end.end inv.order c.loop-end-test.true))
+    let word = c.with_word-word in
+    word.ensures.ending
+    ∙ ap (λ e. fold next_ending e (take (word.result.end - c.loop-end.end) (drop c.loop-end.end text))) inv.ending
+    ∙ sym (ending_of-later text c.args.start c.loop-end.end word.result.end inv.order (omega (arith, word.ensures.after)))
 
 pub loop-end-preserved : goal.loop-end-preserved
 loop-end-preserved c =
     let inv = c.loop-end.invariant in
     let text = c.args.searched.file.text.now in
+    let word = c.with_word-word in
+    let first = others_in-left text c.args.start c.loop-end.end c.loop-end.left c.in-Some.more c.most_at-most.result inv.order
+    c.loop-end-test.true inv.others c.in-Some.ensures.some in
+    let rest = others_in-inside text c.args.start (c.loop-end.end + 1) word.result.end (omega (arith, inv.order))
+    (omega (arith, word.ensures.after)) word.ensures.within (λ at later. word.ensures.inside at (omega (arith, later))) in
     record {
-      order = omega (arith, inv.order, c.offset_after-end.ensures);
-      within = omega (arith, c.loop-end-test.true, c.offset_after-end.ensures);
-      others =
-          subst
-          (λ end. others_in (take (end - c.args.start) (drop c.args.start text)) + c.in-Some.more ≡ c.most_at-most.result)
-          (sym c.offset_after-end.ensures)
-          (others_in-left text c.args.start c.loop-end.end c.loop-end.left c.in-Some.more c.most_at-most.result inv.order
-          c.loop-end-test.true inv.others c.in-Some.ensures.some);
+      order = omega (arith, inv.order, word.ensures.after);
+      within = word.ensures.within;
+      others = omega (arith, first, rest);
       ending =
-          subst (λ end. c.then-ending.result ≡ ending_of (take (end - c.args.start) (drop c.args.start text)))
-          (sym c.offset_after-end.ensures)
-          (c.then-ending.ensures ∙ ap (λ e. next_ending e (get_or text c.loop-end.end 0)) inv.ending
-          ∙ sym (ending_of-next text c.args.start c.loop-end.end inv.order c.loop-end-test.true));
+          word.ensures.ending
+          ∙ ap (λ e. fold next_ending e (take (word.result.end - c.loop-end.end) (drop c.loop-end.end text))) inv.ending
+          ∙ sym (ending_of-later text c.args.start c.loop-end.end word.result.end inv.order (omega (arith, word.ensures.after)));
       so_far = λ olds has before.
           c.in_ok-push_at.ensures olds has
-          (subst (λ end. AreMentionsBefore olds c.args.searched.file c.loop-end.mentions.items c.args.start end)
-          (sym c.offset_after-end.ensures) (inv.so_far olds has before));
+          (AreMentionsBefore-inside olds c.args.searched.file c.loop-end.mentions.items c.args.start (c.loop-end.end + 1)
+          word.result.end (omega (arith, word.ensures.after)) (λ at later. word.ensures.inside at (omega (arith, later)))
+          (inv.so_far olds has before));
     }
 
 pub returns : goal.returns
