@@ -563,7 +563,7 @@ fn moving_now<'a, 'm, S: Store, E: Write>(
     mut moving: Moving<'a, 'm>,
     errors: &mut E,
 ) -> Result<Moving<'a, 'm>, CallEnd> {
-    keep_dead_targets(store, tree, &moving.shown, &mut moving.plan.pages)?;
+    keep_dead(store, tree, &mut moving)?;
     match made.actions_now(store.alloc(), tree, &moving.plan.pages) {
         Ok(actions) => Ok(with_actions(moving, actions)),
         Err(refusal) => {
@@ -571,6 +571,15 @@ fn moving_now<'a, 'm, S: Store, E: Write>(
             Err(refuse_moves(store, tree, moves, &why, errors))
         }
     }
+}
+
+// Keeps the dead targets of the pages of a plan.
+fn keep_dead<S: Store>(
+    store: &mut S,
+    tree: &Tree,
+    moving: &mut Moving<'_, '_>,
+) -> Result<(), RunFault> {
+    keep_dead_targets(store, tree, &moving.shown, &mut moving.plan.pages)
 }
 
 // Empties the new texts of pages. The actions have them too, and of a page only whether it has one is asked after this.

@@ -6,7 +6,7 @@ use Rattle.std.specs.Prelude.{is_some}
 use Rattle.std.proofs.lemmas.Bool.{agree_below_at, and_parts, cases_Bool, cases_lt, cond-false, cond-true, eq-eqb, eqb-true, le-ltb, ltb-true, or_left, or_parts, or_right}
 use Rattle.std.proofs.lemmas.List.Elements.{All-from_recursion}
 use Rattle.std.proofs.lemmas.List.Splits.{slice_split_none}
-use Rattle.std.proofs.lemmas.List.Sums.{fold-append}
+use Rattle.std.proofs.lemmas.List.Sums.{fold-append, sum_by-cons}
 use Rattle.std.proofs.lemmas.Option.{same_Some}
 use Rattle.std.proofs.lemmas.Slice.Eq.{bytes_eq-Decides}
 use Rattle.percent_encoding.specs.Percent.{is_escape, percent_decode, percent_sign}
@@ -15,8 +15,8 @@ use Rattle.relative_path.specs.Editing.{kept, pushed, with_separator}
 use Rattle.relative_path.specs.Naming.{file_name_of, last_name}
 use Rattle.relative_path.proofs.ForCallers.{components-pushed, components-trailing_slash, last_name-name, last_name-split}
 use Rattle.relmove_mentions.specs.Endings.{ending_of, has_name, next_ending, no_ending, with_byte}
-use Rattle.relmove_mentions.specs.NameHashes.{next_hash}
-use Rattle.relmove_mentions.specs.Spans.{is_other_byte, is_path_byte}
+use Rattle.relmove_mentions.specs.NameHashes.{hash_of, next_hash}
+use Rattle.relmove_mentions.specs.Spans.{is_other_byte, is_path_byte, others_in}
 use Rattle.relmove_mentions.specs.declared.endings.Ending.{Ending}
 
 -- ---- one more byte
@@ -90,6 +90,65 @@ fold-ended (b ∷ bs) e f ended also some = elim (cases_Bool (is_slash b)) [
       (sym (ap (λ c. not c || has_name bs) slashed) ∙ some)
   | inr plain ↦ ap (λ g. fold next_ending g bs) (restart e f b ended also plain)
 ]
+
+-- ---- a name alone
+
+or_assoc : (a b c : Bool) → ((a || b) || c) ≡ (a || (b || c))
+or_assoc true b c = refl
+or_assoc false b c = refl
+
+-- a text without a slash, of bytes that go on a path
+pub record IsAlone (text : List ℕ) : Type 0 where
+  pub no_slash : list_any is_slash text ≡ false
+  pub no_other : others_in text ≡ 0
+
+-- what comes after its first byte is one too
+alone-rest : (b : ℕ) (bs : List ℕ) → IsAlone (b ∷ bs)
+    → (is_slash b ≡ false) × ((is_other_byte b ≡ false) × IsAlone bs)
+alone-rest b bs alone =
+    let (plain, rest) = or_parts (is_slash b) (list_any is_slash bs) alone.no_slash in
+    let more : others_in (b ∷ bs) ≡ cond (is_other_byte b) 1 0 + others_in bs =
+    sum_by-cons (λ c. cond (is_other_byte c) 1 0) b bs in
+    elim (cases_Bool (is_other_byte b)) [
+      | inl other ↦
+          let one : cond {A = ℕ} (is_other_byte b) 1 0 ≡ 1 = ap (λ t. cond t 1 0) other in
+          absurd (omega (arith, more, one, alone.no_other))
+      | inr path ↦
+          let none : others_in bs ≡ 0 = omega (arith, more, alone.no_other) in
+          (plain, (path, record { no_slash = rest; no_other = none }))
+    ]
+
+-- such bytes go on a name: its hash, and whether it has a percent sign
+abbrev GoesOn : Ending → List ℕ → Ending → Type 0
+GoesOn before text after = (after.hash ≡ fold next_hash before.hash text)
+    × (after.encoded ≡ (before.encoded || list_any (λ b. b == percent_sign) text))
+
+or_none : (a : Bool) → a ≡ (a || false)
+or_none true = refl
+or_none false = refl
+
+goes_on : (text : List ℕ) (e : Ending) → e.ended ≡ false → IsAlone text → GoesOn e text (fold next_ending e text)
+goes_on [] e goes alone = (refl, or_none e.encoded)
+goes_on (b ∷ bs) e goes alone =
+    let (plain, (path, rest)) = alone-rest b bs alone in
+    let next : next_ending e b ≡ with_byte e b = next-path e b plain path goes in
+    let (hash, encoded) = goes_on bs (with_byte e b) path rest in (
+      ap (λ f. (fold next_ending f bs).hash) next ∙ hash,
+      ap (λ f. (fold next_ending f bs).encoded) next ∙ encoded
+          ∙ or_assoc e.encoded (b == percent_sign) (list_any (λ c. c == percent_sign) bs),
+    )
+
+-- such a text is what it ends in
+pub ending_of-alone : (text : List ℕ) → IsAlone text → ((ending_of text).hash ≡ hash_of text)
+    × ((ending_of text).encoded ≡ list_any (λ b. b == percent_sign) text)
+ending_of-alone [] alone = (refl, refl)
+ending_of-alone (b ∷ bs) alone =
+    let (plain, (path, rest)) = alone-rest b bs alone in
+    let next : next_ending no_ending b ≡ with_byte no_ending b = next-anew no_ending b plain refl in
+    let (hash, encoded) = goes_on bs (with_byte no_ending b) path rest in (
+      ap (λ f. (fold next_ending f bs).hash) next ∙ hash,
+      ap (λ f. (fold next_ending f bs).encoded) next ∙ encoded,
+    )
 
 -- ---- the last component
 

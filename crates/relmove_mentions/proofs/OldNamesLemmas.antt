@@ -20,7 +20,7 @@ use Rattle.relative_path.specs.Walk.{IsSame}
 use Rattle.relative_path.specs.Normalizing.{IsNormal, IsNormalTextOf}
 use Rattle.relative_path.specs.RelativePath.{path_components, path_text}
 use Rattle.relative_path.specs.declared.path.RelativePath.{RelativePath}
-use Rattle.relative_path.proofs.ForCallers.{IsNormal-push_name, IsNormalForm-some, IsSame-append_left, IsSame-append_right, IsSame-last_name, IsSame-sym, IsSame-trans, kept-name, last_name-IsNormalTextOf, last_name-name}
+use Rattle.relative_path.proofs.ForCallers.{IsNormal-push_name, IsNormalForm-some, IsSame-append_left, IsSame-append_right, IsSame-last_name, IsSame-refl, IsSame-sym, IsSame-trans, kept-name, last_name-IsNormalTextOf, last_name-name}
 use Rattle.relative_path_places.proofs.ForCallers.{IsNormalTextOf-same, normal_unique}
 use Rattle.relative_path_places.specs.Views.{view_text}
 use Rattle.relative_path_places.specs.declared.normal_view.NormalView.{NormalView}
@@ -49,8 +49,9 @@ abbrev pub HasLast : OldNames → OldNames → List ℕ → List ℕ → Type 0
 HasLast old new text path = (n : List ℕ) → (file_name_of text ≡ Some n → HasLastName new path n)
     × ((other : List ℕ) → HasLastName old other n → HasLastName new other n)
 
--- the set has the hash, if it is that of the last two or three names of the text, or if it had it
+-- the set has the hash, if it is that of the name before the last, or of the last two or three names of the text, or if it had it
 pub record HasHash (old new : OldNames) (text : List ℕ) (hash : ℕ) : Type 0 where
+  pub above : last_hash (kept (components text)) ≡ Some hash → may_have new.last_twos hash ≡ true
   pub two : last_two_hash (components text) ≡ Some hash → may_have new.last_twos hash ≡ true
   pub three : last_three_hash (components text) ≡ Some hash → may_have new.last_twos hash ≡ true
   pub keeps : may_have old.last_twos hash ≡ true → may_have new.last_twos hash ≡ true
@@ -88,10 +89,11 @@ three_names cs d m n =
     ∙ ap (λ ds. two_hash (last_hash ds) (two_hash (Some (hash_of m)) (Some (hash_of n)))) (kept-name (cs ++ named d ∷ []) m)
     ∙ ap (λ a. two_hash (option_map hash_of a) (two_hash (Some (hash_of m)) (Some (hash_of n)))) (last_name-name cs d)
 
--- the same for the last two names
-last_two-normal : (steps front : List Step) (d n text : List ℕ) → IsNormalTextOf steps text
-    → IsSame (front ++ named d ∷ named n ∷ []) steps → last_two_hash (components text) ≡ two_hash (Some (hash_of d)) (Some (hash_of n))
-last_two-normal steps front d n text normal same =
+-- the normal text of what ends in two names ends in them
+two-normal : (steps front : List Step) (d n text : List ℕ) → IsNormalTextOf steps text
+    → IsSame (front ++ named d ∷ named n ∷ []) steps
+    → (ds : List Step) × (components text ≡ (ds ++ named d ∷ []) ++ named n ∷ [])
+two-normal steps front d n text normal same =
     let (ds, form) = IsNormalForm-some front in
     let two : List Step = (ds ++ named d ∷ []) ++ named n ∷ [] in
     let is_normal : IsNormal two =
@@ -100,9 +102,20 @@ last_two-normal steps front d n text normal same =
     let leads : IsSame two (components text) =
     IsSame-trans (IsSame-sym (subst (IsSame (front ++ named d ∷ named n ∷ [])) joined
     (IsSame-append_right (named d ∷ named n ∷ []) form.same))) (IsSame-trans same normal.same) in
-    let is : components text ≡ two =
-    sym (normal_unique two (components text) is_normal normal.normal_text.normal leads) in
-    ap last_two_hash is ∙ two_names ds d n
+    (ds, sym (normal_unique two (components text) is_normal normal.normal_text.normal leads))
+
+-- the same for the last two names
+last_two-normal : (steps front : List Step) (d n text : List ℕ) → IsNormalTextOf steps text
+    → IsSame (front ++ named d ∷ named n ∷ []) steps → last_two_hash (components text) ≡ two_hash (Some (hash_of d)) (Some (hash_of n))
+last_two-normal steps front d n text normal same =
+    let (ds, is) = two-normal steps front d n text normal same in ap last_two_hash is ∙ two_names ds d n
+
+-- and for the name before the last
+above-normal : (steps front : List Step) (d n text : List ℕ) → IsNormalTextOf steps text
+    → IsSame (front ++ named d ∷ named n ∷ []) steps → last_hash (kept (components text)) ≡ Some (hash_of d)
+above-normal steps front d n text normal same =
+    let (ds, is) = two-normal steps front d n text normal same in
+    ap (λ cs. last_hash (kept cs)) is ∙ ap last_hash (kept-name (ds ++ named d ∷ []) n) ∙ ap (option_map hash_of) (last_name-name ds d)
 
 -- and for the last three
 last_three-normal : (steps front : List Step) (d m n text : List ℕ) → IsNormalTextOf steps text
@@ -128,7 +141,7 @@ pub Lists-insert : (names : List PathName) (path : NormalView) (name : List Step
     (text : List ℕ) → IsNormalTextOf name text → IsInserted old new text path → HasLast old new text (view_text path)
     → HasLastTwo old new text → Lists names old → Lists (names ++ (view_text path, name) ∷ []) new
 Lists-insert names path name old new text normal inserted has_last has_two lists =
-    record { only = only; each = each; last = last; last_two = last_two; last_three = last_three } where
+    record { only = only; each = each; last = last; above = above; last_two = last_two; last_three = last_three } where
       new_pair : PathName
       new_pair = (view_text path, name)
 
@@ -194,6 +207,16 @@ Lists-insert names path name old new text normal inserted has_last has_two lists
             subst (IsSame (front ++ named n ∷ [])) (sym (ap (λ pair. pair.1) is)) same in
             subst (λ p. HasLastName new p n) (ap (λ (pair : PathName). pair.0) is)
             ((has_last n).0 (last_name-normal name front n text normal of_name))
+      ]
+
+      above : (o : List ℕ) (steps front : List Step) (d n : List ℕ) → Contains more (o, steps)
+          → IsSame (front ++ named d ∷ named n ∷ []) steps → may_have_two new (Some (hash_of d)) ≡ true
+      above o steps front d n has same = elim (Contains-push_cases names (view_text path, name) (o, steps) has) [
+        | inl before ↦ (has_two (hash_of d)).keeps (lists.above o steps front d n before same)
+        | inr is ↦
+            let of_name : IsSame (front ++ named d ∷ named n ∷ []) name =
+            subst (IsSame (front ++ named d ∷ named n ∷ [])) (sym (ap (λ pair. pair.1) is)) same in
+            (has_two (hash_of d)).above (above-normal name front d n text normal of_name)
       ]
 
       last_two : (o : List ℕ) (steps front : List Step) (d n : List ℕ) → Contains more (o, steps)
@@ -597,6 +620,20 @@ LeadsToPath-two olds set base cs old has is_old first_leads =
           IsSame-two (base ++ cs) base d n (IsSame-append_left base alone) above in
           has.lists.last_two old leads.name (kept base) d n (all_names-Contains olds old leads.name is_old leads.is_name)
           (IsSame-trans (IsSame-sym same) leads.same)
+
+-- and the last name of a directory, if a name alone leads from there
+pub LeadsToPath-above : (olds : List (List ℕ)) (set : OldNames) (base : List Step) (n old : List ℕ) → Has olds set
+    → Contains olds old → LeadsToPath olds (base ++ named n ∷ []) old → may_have_two set (last_hash base) ≡ true
+LeadsToPath-above olds set base n old has is_old first_leads = of (last_name base) refl where
+  of : (b : Option (List ℕ)) → last_name base ≡ b → may_have_two set (option_map hash_of b) ≡ true
+  of None above = refl
+  of (Some d) above =
+      let cs : List Step = named n ∷ [] in
+      let leads : LeadsToName (base ++ cs) old = IsFirst-holds (LeadsToName (base ++ cs)) olds old first_leads in
+      let same : IsSame (base ++ cs) (kept base ++ named d ∷ named n ∷ []) =
+      IsSame-two (base ++ cs) base d n (IsSame-refl (base ++ cs)) above in
+      has.lists.above old leads.name (kept base) d n (all_names-Contains olds old leads.name is_old leads.is_name)
+      (IsSame-trans (IsSame-sym same) leads.same)
 
 -- and the last name of a directory, and then two names
 LeadsToPath-three : (olds : List (List ℕ)) (set : OldNames) (base cs : List Step) (old : List ℕ) → Has olds set

@@ -1,7 +1,7 @@
 -- Spans in order, and the bytes of a span that aren't path bytes.
 use Rattle.std.proofs.Common.{◌≡◌, ◌==◌, ◌++◌, inl, inr, ℕ, zero, suc, cond, ◌+◌, ◌-◌, ◌<◌, ◌≤◌, Bool, true, false, not, ◌||◌, ◌&&◌, List, [], ◌∷◌, length, take, drop, get_or, refl, sym, ap, ◌∙◌, subst, arith, length-drop, drop-cons}
 use Rattle.std.specs.Prelude.{nat_le}
-use Rattle.std.specs.List.{fold, list_all}
+use Rattle.std.specs.List.{fold, list_all, list_any}
 use Rattle.std.proofs.lemmas.Bool.{cases_lt, eqb-true, le-leb, lt-leb, or_cases, or_parts}
 use Rattle.std.proofs.lemmas.List.{drop-drop, get_or-drop, take-take}
 use Rattle.std.proofs.lemmas.List.Sums.{fold-append, fold_more, sum_by-append, sum_by-cons, sum_by-take-le, sum_by_more}
@@ -216,6 +216,28 @@ is_bounded_after-plain text end within path plain =
     (lt-leb (length text) end within)
     ∙ ap (λ b. not b || (get_or text end 0 == 46 && is_bounded_at text (end + 1))) path
     ∙ ap (λ b. b && is_bounded_at text (end + 1)) plain
+
+-- so many bytes without a property have none with it
+none-so_many : (p : ℕ → Bool) (text : List ℕ) (n start : ℕ) → start + n ≤ length text
+    → ((at : ℕ) → start ≤ at → at < start + n → p (get_or text at 0) ≡ false)
+    → list_any p (take n (drop start text)) ≡ false
+none-so_many p text zero start within none = refl
+none-so_many p text (suc n) start within none =
+    let next : suc start ≡ start + 1 = omega arith in
+    let cut : drop start text ≡ get_or text start 0 ∷ drop (start + 1) text =
+    drop-cons text start 0 (omega (arith, within)) ∙ ap (λ k. get_or text start 0 ∷ drop k text) next in
+    ap (λ rest. list_any p (take (suc n) rest)) cut
+    ∙ ap (λ b. b || list_any p (take n (drop (start + 1) text))) (none start (omega arith) (omega arith))
+    ∙ none-so_many p text n (start + 1) (omega (arith, within))
+    (λ at later before. none at (omega (arith, later)) (omega (arith, before)))
+
+-- nor have those of a span
+pub list_any-none : (p : ℕ → Bool) (text : List ℕ) (start end : ℕ) → start ≤ end → end ≤ length text
+    → ((at : ℕ) → start ≤ at → at < end → p (get_or text at 0) ≡ false)
+    → list_any p (take (end - start) (drop start text)) ≡ false
+list_any-none p text start end order within none =
+    none-so_many p text (end - start) start (omega (arith, order, within))
+    (λ at later before. none at later (omega (arith, before, order)))
 
 -- a byte before which no path ends goes on a path
 goes_on-inside : (text : List ℕ) (at : ℕ) → is_bounded_after text at ≡ false → is_other_byte (get_or text at 0) ≡ false

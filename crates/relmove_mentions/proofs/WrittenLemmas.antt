@@ -1,5 +1,5 @@
 -- When a text stands for an old path, and when bytes write one.
-use Rattle.std.proofs.Common.{◌≡◌, ◌⊎◌, ◌<◌, ℕ, Bool, not, true, false, ◌||◌, ◌==◌, List, [], ◌∷◌, Option, None, Some, IsSome, inl, inr, refl, sym, ap, ◌∙◌, subst, true≢false, arith, cond, length, map}
+use Rattle.std.proofs.Common.{◌≡◌, ◌⊎◌, ◌<◌, ℕ, Bool, not, true, false, ◌||◌, ◌==◌, List, [], ◌∷◌, ◌++◌, Option, None, Some, IsSome, inl, inr, refl, sym, ap, ◌∙◌, subst, true≢false, arith, cond, length, map}
 use Rattle.std.specs.Prelude.{nat_lt}
 use Rattle.std.specs.List.{Contains, list_any}
 use Rattle.std.specs.Option.{option_map}
@@ -19,8 +19,8 @@ use Rattle.relmove_mentions.specs.Hashes.{may_have}
 use Rattle.relmove_mentions.specs.NameHashes.{hash_of, last_hash, name_alone, two_hash}
 use Rattle.relmove_mentions.specs.Names.{has_steps}
 use Rattle.relmove_mentions.specs.OldNames.{Finds, Has, WithOthers, may_have_two}
-use Rattle.relmove_mentions.specs.Spans.{others_in}
-use Rattle.relmove_mentions.specs.Written.{IsWritten, LeadsFromDirectory, LeadsFromTop, StandsFor}
+use Rattle.relmove_mentions.specs.Spans.{may_separate, others_in}
+use Rattle.relmove_mentions.specs.Written.{IsWritten, LeadsFromDirectory, LeadsFromTop, LeadsToPath, StandsFor}
 use Rattle.relmove_mentions.specs.declared.bases.Base.{Base}
 use Rattle.relmove_mentions.specs.declared.file_text.FileText.{FileText}
 use Rattle.relmove_mentions.specs.declared.endings.Ending.{Ending}
@@ -28,7 +28,7 @@ use Rattle.relmove_mentions.specs.declared.hashes.Hashes.{Hashes}
 use Rattle.relmove_mentions.specs.declared.old_names.OldNames.{OldNames}
 use Rattle.relmove_mentions.proofs.EndingsLemmas.{components-alone, ends-decoded, ends-name, has_name-named}
 use Rattle.relmove_mentions.proofs.FirstLemmas.{first_or_rest}
-use Rattle.relmove_mentions.proofs.OldNamesLemmas.{Finds-map, Finds-second, LeadsToPath-two, StandsFor-last, base_components-same}
+use Rattle.relmove_mentions.proofs.OldNamesLemmas.{Finds-map, Finds-second, LeadsToPath-above, LeadsToPath-two, StandsFor-last, base_components-same}
 
 -- a text that ends in a name stands for the path to which it leads
 pub Finds-text : (olds : List (List ℕ)) (file : FileText) (others : ℕ) (text : List ℕ) (found : Option NormalView)
@@ -158,38 +158,88 @@ name_alone-one text =
     ∙ ap (option_map hash_of) (last_name-name [] text)
 
 -- where the last name of a directory and then a name may come, they may for one of the bases of these directories
-any-base : (set : OldNames) (name : Option ℕ) (bases : List Base) (directory : List Step)
-    → Contains (map base_components bases) directory → may_have_two set (two_hash (last_hash directory) name) ≡ true
-    → list_any (λ (base : Base). may_have_two set (two_hash base.name name)) bases ≡ true
-any-base set name [] directory (k, within, is) may = absurd (omega (arith, within))
-any-base set name (base ∷ bases) directory has may =
+any-base : (may : Option ℕ → Bool) (bases : List Base) (directory : List Step)
+    → Contains (map base_components bases) directory → may (last_hash directory) ≡ true
+    → list_any (λ (base : Base). may base.name) bases ≡ true
+any-base may [] directory (k, within, is) holds = absurd (omega (arith, within))
+any-base may (base ∷ bases) directory has holds =
     elim (first_or_rest (base_components base) (map base_components bases) directory has) [
-      | inl same ↦
-          or_left _ _ (ap (λ hash. may_have_two set (two_hash hash name)) (base.hashed ∙ ap last_hash same) ∙ may)
-      | inr rest ↦ or_right _ _ (any-base set name bases directory rest may)
+      | inl same ↦ or_left _ _ (ap may (base.hashed ∙ ap last_hash same) ∙ holds)
+      | inr rest ↦ or_right _ _ (any-base may bases directory rest holds)
     ]
 
--- a text without a slash leads from a directory of the file, if it stands for an old path
-pub StandsFor-alone : (olds : List (List ℕ)) (set : OldNames) (file : FileText) (bases : List Base) (text old : List ℕ)
-    → Has olds set → Contains olds old → map base_text bases ≡ map path_text file.directories.now
-    → list_any is_slash text ≡ false → StandsFor olds file text old
-    → list_any (λ (base : Base). may_have_two set (two_hash base.name (Some (hash_of text)))) bases ≡ true
-StandsFor-alone olds set file bases text old has is_old same none stands = of (file_name_of text) refl stands.named where
+-- a text without a slash leads from a directory of the file as one name, if it stands for an old path
+from-directory : (olds : List (List ℕ)) (file : FileText) (bases : List Base) (text old : List ℕ) (may : Option ℕ → Bool)
+    → map base_text bases ≡ map path_text file.directories.now → list_any is_slash text ≡ false → StandsFor olds file text old
+    → ((directory : List Step) → LeadsToPath olds (directory ++ one_name text ∷ []) old → may (last_hash directory) ≡ true)
+    → list_any (λ (base : Base). may base.name) bases ≡ true
+from-directory olds file bases text old may same none stands holds = of (file_name_of text) refl stands.named where
   of : (found : Option (List ℕ)) → file_name_of text ≡ found → IsSome found
-      → list_any (λ (base : Base). may_have_two set (two_hash base.name (Some (hash_of text)))) bases ≡ true
+      → list_any (λ (base : Base). may base.name) bases ≡ true
   of None is some = absurd (true≢false (sym some))
   of (Some n) is some =
       let alone : components text ≡ one_name text ∷ [] = components-alone text n none is in
       elim stands.leads [
         | inl (below, from) ↦
-            let two = LeadsToPath-two olds set from.directory (components text) old has is_old from.leads in
-            any-base set (Some (hash_of text)) bases from.directory
+            any-base may bases from.directory
             (subst (λ list. Contains list from.directory) (sym (base_components-same bases file.directories.now same))
             from.is_one)
-            (ap (λ hash. may_have_two set (two_hash (last_hash from.directory) hash))
-            (sym (ap name_alone alone ∙ name_alone-one text)) ∙ two)
+            (holds from.directory (subst (λ cs. LeadsToPath olds (from.directory ++ cs) old) alone from.leads))
         | inr (some_directory, from) ↦
             let one : nat_lt 1 (length (components text)) ≡ false = ap (λ cs. nat_lt 1 (length cs)) alone in
             absurd (true≢false (sym some_directory ∙ ap (λ b. b || nat_lt 1 (length (components text))) (has_root-none text none)
             ∙ one))
       ]
+
+-- so a name of the path ends in the last name of a directory and this one
+pub StandsFor-alone : (olds : List (List ℕ)) (set : OldNames) (file : FileText) (bases : List Base) (text old : List ℕ)
+    → Has olds set → Contains olds old → map base_text bases ≡ map path_text file.directories.now
+    → list_any is_slash text ≡ false → StandsFor olds file text old
+    → list_any (λ (base : Base). may_have_two set (two_hash base.name (Some (hash_of text)))) bases ≡ true
+StandsFor-alone olds set file bases text old has is_old same none stands =
+    from-directory olds file bases text old (λ name. may_have_two set (two_hash name (Some (hash_of text)))) same none stands
+    (λ directory leads.
+    ap (λ hash. may_have_two set (two_hash (last_hash directory) hash)) (sym (name_alone-one text))
+    ∙ LeadsToPath-two olds set directory (one_name text ∷ []) old has is_old leads)
+
+-- and in a name after the last name of a directory
+pub StandsFor-above : (olds : List (List ℕ)) (set : OldNames) (file : FileText) (bases : List Base) (text old : List ℕ)
+    → Has olds set → Contains olds old → map base_text bases ≡ map path_text file.directories.now
+    → list_any is_slash text ≡ false → StandsFor olds file text old
+    → list_any (λ (base : Base). may_have_two set base.name) bases ≡ true
+StandsFor-above olds set file bases text old has is_old same none stands =
+    from-directory olds file bases text old (may_have_two set) same none stands
+    (λ directory leads. LeadsToPath-above olds set directory text old has is_old leads)
+
+-- what a name alone writes, it stands for
+pub StandsFor-written : (olds : List (List ℕ)) (file : FileText) (bytes old : List ℕ)
+    → list_any (λ b. b == percent_sign) bytes ≡ false → IsWritten olds file bytes old → StandsFor olds file bytes old
+StandsFor-written olds file bytes old none written = elim written [
+  | inl stands ↦ stands
+  | inr stands ↦ subst (λ text. StandsFor olds file text old) (percent_decode-plain bytes none) stands
+]
+
+-- a text without a byte that may separate names has no slash, and no percent sign
+no-separator : (text : List ℕ) → list_any may_separate text ≡ false
+    → (list_any is_slash text ≡ false) × (list_any (λ b. b == percent_sign) text ≡ false)
+no-separator [] none = (refl, refl)
+no-separator (b ∷ bs) none =
+    let (first, others) = or_parts (may_separate b) (list_any may_separate bs) none in
+    let (plain, decoded) = or_parts (is_slash b) (b == percent_sign) first in
+    let (slashes, percents) = no-separator bs others in (
+      ap (λ c. c || list_any is_slash bs) plain ∙ slashes,
+      ap (λ c. c || list_any (λ d. d == percent_sign) bs) decoded ∙ percents,
+    )
+
+-- where no name alone can be one, what writes an old path has such a byte
+pub separates-written : (olds : List (List ℕ)) (set : OldNames) (file : FileText) (bases : List Base) (bytes old : List ℕ)
+    → Has olds set → Contains olds old → map base_text bases ≡ map path_text file.directories.now
+    → list_any (λ (base : Base). may_have_two set base.name) bases ≡ false → IsWritten olds file bytes old
+    → list_any may_separate bytes ≡ true
+separates-written olds set file bases bytes old has is_old same alone written = elim (cases_Bool (list_any may_separate bytes)) [
+  | inl some ↦ some
+  | inr none ↦
+      let (slashes, percents) = no-separator bytes none in
+      absurd (true≢false (sym (StandsFor-above olds set file bases bytes old has is_old same slashes
+      (StandsFor-written olds file bytes old percents written)) ∙ alone))
+]

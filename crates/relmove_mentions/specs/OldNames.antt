@@ -37,12 +37,12 @@ pub record HasLastName (set : OldNames) (old n : List ℕ) : Type 0 where
   pub ending : IsTrue (may_have set.endings (ending_of n).hash)
   pub with_others : 0 < others_in old → IsTrue (may_have set.endings_with_others (ending_of n).hash)
 
--- a name of the set may end in two or three names with this hash, if there is a hash
+-- a name of the set may end in two or three names with this hash, or in a name after one with it, if there is a hash
 abbrev pub may_have_two : OldNames → Option ℕ → Bool
 may_have_two set two = option_map_or (may_have set.last_twos) two true
 
 -- under the normal text of a name the set has the first path with this name, and under no other text a path; it has
--- the last name of each, and its last two and three names
+-- the last name of each, the one before, and its last two and three names
 pub record Lists (names : List PathName) (set : OldNames) : Type 0 where
   pub only : (text : List ℕ) (path : NormalView) → get_by_text set.by_text text ≡ Some path
       → (steps : List Step) × IsFirst (HasText text) names (view_text path, steps)
@@ -50,6 +50,8 @@ pub record Lists (names : List PathName) (set : OldNames) : Type 0 where
       → IsSome (get_by_text set.by_text text)
   pub last : (old : List ℕ) (steps front : List Step) (n : List ℕ) → Contains names (old, steps)
       → IsSame (front ++ name n ∷ []) steps → HasLastName set old n
+  pub above : (old : List ℕ) (steps front : List Step) (d n : List ℕ) → Contains names (old, steps)
+      → IsSame (front ++ name d ∷ name n ∷ []) steps → IsTrue (may_have_two set (Some (hash_of d)))
   pub last_two : (old : List ℕ) (steps front : List Step) (d n : List ℕ) → Contains names (old, steps)
       → IsSame (front ++ name d ∷ name n ∷ []) steps → IsTrue (may_have_two set (two_hash (Some (hash_of d)) (Some (hash_of n))))
   pub last_three : (old : List ℕ) (steps front : List Step) (d m n : List ℕ) → Contains names (old, steps)

@@ -2,6 +2,8 @@
 use Rattle.std.specs.Prelude.{◌≡◌, ◌⊎◌, ℕ, ◌<◌, ◌≤◌, ◌+◌, ◌-◌, Bool, not, ◌==◌, ◌||◌, ◌&&◌, nat_lt, nat_le, List, [], ◌∷◌, length, take, drop, slice_index, IsTrue, ⊤}
 use Rattle.std.specs.Char.{is_ascii_alphanumeric}
 use Rattle.std.specs.List.{count_by, list_all}
+use Rattle.percent_encoding.specs.Percent.{percent_sign}
+use Rattle.relative_path.specs.Steps.{is_slash}
 use Rattle.relmove_mentions.specs.declared.text_span.TextSpan.{TextSpan}
 
 -- the byte goes on a path: an ASCII letter or digit, `%`, `-`, `.`, `/`, `_`, or a byte above 127
@@ -11,6 +13,10 @@ is_path_byte b = is_ascii_alphanumeric b || b == 37 || b == 45 || b == 46 || b =
 -- any other byte
 abbrev pub is_other_byte : ℕ → Bool
 is_other_byte b = not (is_path_byte b)
+
+-- the byte is a slash, or may begin one that is encoded
+abbrev pub may_separate : ℕ → Bool
+may_separate b = is_slash b || b == percent_sign
 
 -- how many other bytes a text has
 abbrev pub others_in : List ℕ → ℕ

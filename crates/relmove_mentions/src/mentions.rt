@@ -1,5 +1,5 @@
 //! The mentions of old paths in a text.
-ghost use Rattle.std.specs.Prelude.{◌≡◌, ◌≤◌, ◌<◌, ◌+◌, ◌++◌, ◌==◌, ◌&&◌, ◌||◌, ℕ, List, IfNone, IfOk, IfSome, OnOk, Some, drop, false, length, map, if◌then◌else◌, IsTrue};
+ghost use Rattle.std.specs.Prelude.{◌≡◌, ◌≤◌, ◌<◌, ◌+◌, ◌++◌, ◌==◌, ◌&&◌, ◌||◌, ℕ, List, IfNone, IfOk, IfSome, OnOk, Some, drop, false, length, map, nat_lt, slice_index, if◌then◌else◌, IsTrue};
 ghost use Rattle.std.specs.List.{All, AllPairs, Contains, list_all, list_any};
 ghost use Rattle.percent_encoding.specs.Percent.{percent_sign};
 ghost use Rattle.relative_path.specs.Steps.{is_slash};
@@ -9,7 +9,7 @@ ghost use Rattle.relative_path_places.specs.Views.{view_text};
 ghost use Rattle.relmove_mentions.specs.Bases.{base_components};
 ghost use Rattle.relmove_mentions.specs.Endings.{IsCandidate, ending_of, may_end};
 ghost use Rattle.relmove_mentions.specs.Mentions.{AreMentionsBefore, HaveAtMost, HaveOthersFrom, IsMention, spans_of};
-ghost use Rattle.relmove_mentions.specs.NameHashes.{hash_of, short_hash, two_hash};
+ghost use Rattle.relmove_mentions.specs.NameHashes.{short_hash, two_hash};
 ghost use Rattle.relmove_mentions.specs.OldNames.{Finds, Has, WithOthers, may_have_two};
 ghost use Rattle.relmove_mentions.specs.Spans.{
   ArePassed,
@@ -21,6 +21,7 @@ ghost use Rattle.relmove_mentions.specs.Spans.{
   is_bounded_before,
   is_other_byte,
   is_path_byte,
+  may_separate,
   others_in,
   span_bytes,
 };
@@ -40,10 +41,12 @@ use crate::bases::Base;
 use crate::endings::{Ending, with_word};
 use crate::file_text::FileText;
 use crate::hashes::Hashes;
-use crate::name_hashes::{hash_of, last_three_hash, last_two_hash, short_hash, two_hash};
+use crate::name_hashes::{last_three_hash, last_two_hash, short_hash, two_hash};
 use crate::old_names::OldNames;
 use crate::searched_file::{SearchedFile, bases_of};
-use crate::text_span::{TextSpan, is_apart, is_bounded_after, is_bounded_before, is_path_byte};
+use crate::text_span::{
+    TextSpan, is_apart, is_bounded_after, is_bounded_before, is_path_byte, may_separate,
+};
 use percent_encoding::percent_decode;
 use relative_path::RelativePath;
 use relative_path_places::NormalView;
@@ -128,19 +131,47 @@ impl<'p> OldNames<'p> {
             → AllPairs ComesBefore (spans_of mentions.items)) }
     {
         let file = searched.file;
+        let alone = self.may_have_alone(searched.directories);
         let mut mentions = Vec::new(alloc);
         let mut passed = 0;
         let mut start = 0;
         let mut wide = self.next_with_others(file.text, start);
-        while let Some(end) = next_end(&self.endings, file.text, start) {
+        while let Some(end) = self.next_end_in(searched, alone, start) {
             wide = self.with_others_from(file.text, start, wide);
             start = first_start_of(file.text, start, end, wide.start);
             passed = count_passed(file.read, passed, start);
             let span = TextSpan { start, end };
             self.push_between(alloc, searched, passed, span, wide.start, &mut mentions)?;
-            start = end;
+            start = next_start(file.text, end, file.text.len());
         }
         Ok(mentions)
+    }
+
+    // Returns whether a name alone may be mentioned in a file with these directories: whether a name of an old path may be right
+    // below one that ends in the last name of one of them.
+    fn may_have_alone(&self, directories: &[Base<'_>]) -> bool
+        ensures { result ≡ list_any (λ (base : Base). may_have_two self.now base.name) directories.now }
+    {
+        directories.iter().any(|base| self.may_have_two(base.name))
+    }
+
+    // Returns an offset after another, before which no mention ends that begins at the other or later. `None` if there are no such
+    // mentions. Where no name alone is mentioned, each has a slash, or is encoded.
+    fn next_end_in(&self, searched: SearchedFile<'_>, alone: bool, start: usize) -> Option<usize>
+        requires within { start ≤ length searched.file.text.now }
+        requires alone { alone ≡ list_any (λ (base : Base). may_have_two self.now base.name) searched.directories.now }
+        ensures none { IfNone result ((olds : List (List ℕ)) (span : TextSpan) (old : List ℕ) → Has olds self.now
+            → IsMention olds searched.entry.file span old → span.start < start) }
+        ensures after { IfSome result (λ end. start < end) }
+        ensures within { IfSome result (λ end. end ≤ length searched.entry.file.text.now) }
+        ensures first { IfSome result (λ end. (olds : List (List ℕ)) (span : TextSpan) (old : List ℕ) → Has olds self.now
+            → IsMention olds searched.entry.file span old → start ≤ span.start → end ≤ span.end) }
+    {
+        if alone {
+            next_end(&self.endings, searched.file.text, start)
+        } else {
+            next_separator_end(searched.file.text, start)
+        }
     }
 
     // Returns from where to where the next mentions with bytes that aren't path bytes can begin: from no later offset than the
@@ -203,7 +234,7 @@ impl<'p> OldNames<'p> {
         while start < span.end {
             passed = count_passed(searched.file.read, passed, start);
             self.push_from(alloc, searched, passed, start, wide, mentions)?;
-            start += 1;
+            start = next_start(searched.file.text, start + 1, span.end);
         }
         Ok(())
     }
@@ -334,15 +365,33 @@ impl<'p> OldNames<'p> {
         if !can_end(&self.endings, ending, searched.file.text, span.end) {
             return Ok(None);
         }
+        let bytes = &searched.file.text[span.start..span.end];
+        if !self.may_write(searched.directories, bytes, others, ending) {
+            return Ok(None);
+        }
         if !is_unread(searched.file.read, passed, span) {
             return Ok(None);
         }
-        self.find(
-            alloc,
-            searched,
-            others,
-            &searched.file.text[span.start..span.end],
-        )
+        self.find(alloc, searched, others, bytes)
+    }
+
+    // Returns whether bytes that end so may write an old path in a file with these directories. So many of them aren't path
+    // bytes. A name alone leads from one of the directories, so a name of the path ends in the directory's last name and this
+    // one: most words of a text end here.
+    fn may_write(
+        &self,
+        directories: &[Base<'_>],
+        bytes: &[u8],
+        others: usize,
+        ending: Ending,
+    ) -> bool
+        ensures { result ≡ (nat_lt 0 others || (ending.encoded || (list_any is_slash bytes.now
+            || list_any (λ (base : Base). may_have_two self.now (two_hash base.name (Some ending.hash))) directories.now))) }
+    {
+        0 < others
+            || ending.encoded
+            || has_slash(bytes)
+            || self.may_have_below(directories, Some(ending.hash))
     }
 
     // Returns an old path with at least so many bytes that aren't path bytes that bytes write.
@@ -378,9 +427,6 @@ impl<'p> OldNames<'p> {
         ensures { IfOk result (λ found. (olds : List (List ℕ)) → Has olds self.now
             → Finds olds (WithOthers others (StandsFor olds searched.entry.file text.now)) found) }
     {
-        if !self.may_stand(searched.directories, text) {
-            return Ok(None);
-        }
         let Ok(text) = str::from_utf8(text) else {
             return Ok(None);
         };
@@ -401,15 +447,6 @@ impl<'p> OldNames<'p> {
             return Ok(Some(old));
         }
         self.find_from_top(alloc, searched, others, path)
-    }
-
-    // Returns whether a text may stand for an old path in a file with these directories. A name alone leads from one of them, so
-    // a name of the path ends in the directory's last name and this one: most words of a text end here.
-    fn may_stand(&self, directories: &[Base<'_>], text: &[u8]) -> bool
-        ensures { result ≡ (list_any is_slash text.now
-            || list_any (λ (base : Base). may_have_two self.now (two_hash base.name (Some (hash_of text.now)))) directories.now) }
-    {
-        has_slash(text) || self.may_have_below(directories, Some(hash_of(text)))
     }
 
     // Returns whether a name of an old path may end in the last name of one of these bases, and then in a name with this hash.
@@ -543,6 +580,40 @@ fn can_end(endings: &Hashes, ending: Ending, text: &[u8], end: usize) -> bool
     ensures { result ≡ (is_bounded_after text.now end && may_end endings.now ending) }
 {
     is_bounded_after(text, end) && ending.may_be_of(endings)
+}
+
+// Returns the offset after the first byte from another offset on that may separate names. `None` if there is none.
+fn next_separator_end(text: &[u8], start: usize) -> Option<usize>
+    requires { start ≤ length text.now }
+    ensures none { IfNone result ((at : ℕ) → start ≤ at → at < length text.now → may_separate (slice_index text.now at) ≡ false) }
+    ensures after { IfSome result (λ end. start < end) }
+    ensures within { IfSome result (λ end. end ≤ length text.now) }
+    ensures first { IfSome result (λ end. (at : ℕ) → start ≤ at → at + 1 < end → may_separate (slice_index text.now at) ≡ false) }
+{
+    let mut at = start;
+    while at < text.len() {
+        if may_separate(text[at]) {
+            return Some(at + 1);
+        }
+        at += 1;
+    }
+    None
+}
+
+// Returns the first offset from another on at which a path can begin, or the end if there is none before it.
+fn next_start(text: &[u8], start: usize, end: usize) -> usize
+    requires some { 0 < start }
+    requires order { start ≤ end }
+    requires within { end ≤ length text.now }
+    ensures after { start ≤ result }
+    ensures before { result ≤ end }
+    ensures none { (at : ℕ) → start ≤ at → at < result → is_bounded_before text.now at ≡ false }
+{
+    let mut next = start;
+    while next < end && is_path_byte(text[next - 1]) {
+        next += 1;
+    }
+    next
 }
 
 // Returns the first offset from a start on at which a span can begin that ends at an offset or later, and has at most so many

@@ -25,7 +25,7 @@ ghost use Rattle.relmove_mentions.specs.Spans.{others_in};
 
 use crate::endings::ending_of;
 use crate::hashes::Hashes;
-use crate::name_hashes::{last_three_hash, last_two_hash};
+use crate::name_hashes::{last_hash, last_three_hash, last_two_hash};
 use crate::text_span::others_in;
 use relative_path::RelativePath;
 use relative_path_places::{NormalView, directory};
@@ -50,7 +50,7 @@ pub struct OldNames<'p> {
     pub(crate) endings: Hashes,
     // Those of the paths that have a byte that isn't a path byte.
     pub(crate) endings_with_others: Hashes,
-    // Those of the last two names, and of the last three.
+    // Those of the last two names, of the last three, and of the name before the last.
     last_twos: Hashes,
     most_others: usize,
 }
@@ -203,6 +203,10 @@ impl<'p> OldNames<'p> {
         );
         insert_hash(
             &mut self.last_twos,
+            last_hash(directory(normal.as_relative_path())),
+        );
+        insert_hash(
+            &mut self.last_twos,
             last_two_hash(normal.as_relative_path()),
         );
         insert_hash(
@@ -228,7 +232,8 @@ impl<'p> OldNames<'p> {
         self.endings.may_have(ending_of(name.as_bytes()).hash)
     }
 
-    // Returns whether a name of an old path may end in two or three names with this hash. If there is no hash, it may.
+    // Returns whether a name of an old path may end in two or three names with this hash, or in a name after one with it. If there
+    // is no hash, it may.
     #[inline]
     pub(crate) fn may_have_two(&self, two: Option<u64>) -> bool
         ensures { result ≡ may_have_two self.now two }

@@ -7,6 +7,7 @@ ghost use Rattle.relmove_mentions.specs.Spans.{
   is_bounded_at,
   is_bounded_before,
   is_path_byte,
+  may_separate,
   others_in,
 };
 
@@ -90,6 +91,14 @@ pub(crate) fn is_plain_byte(byte: u8) -> bool
     ensures { result ≡ (is_path_byte byte && not (byte == 37 || byte == 46 || byte == 47)) }
 {
     is_path_byte(byte) && !(byte == b'%' || byte == b'.' || byte == b'/')
+}
+
+// Returns whether a byte is a slash, or may begin one that is encoded.
+#[inline]
+pub(crate) fn may_separate(byte: u8) -> bool
+    ensures { result ≡ may_separate byte }
+{
+    byte == b'/' || byte == b'%'
 }
 
 // Returns how many bytes of a text aren't path bytes.

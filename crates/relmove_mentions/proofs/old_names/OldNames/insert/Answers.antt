@@ -1,10 +1,11 @@
 -- The map's entry for the normal text gets the path if it is vacant, and the set has what the last name of the text ends in.
 use Rattle.std.proofs.Common.{string_bytes, ap, arith, sym, ◌∙◌}
 use Rattle.std.proofs.lemmas.Map.Text.{text_keys}
+use Rattle.relative_path.specs.Editing.{kept}
 use Rattle.relative_path.specs.Steps.{components}
 use Rattle.relative_path.specs.Naming.{file_name_of}
 use Rattle.relmove_mentions.specs.Endings.{ending_of}
-use Rattle.relmove_mentions.specs.NameHashes.{last_three_hash, last_two_hash}
+use Rattle.relmove_mentions.specs.NameHashes.{last_hash, last_three_hash, last_two_hash}
 use Rattle.relative_path.specs.RelativePath.{path_components}
 use Rattle.relmove_mentions.proofs.OldNamesLemmas.{Lists-insert}
 use Rattle.relmove_mentions.proofs.old_names.OldNames.insert.Goals as goal
@@ -29,12 +30,19 @@ returns-clause-lists c = λ names lists.
     (λ hash.
     let text = sym c.into_string-text.ensures.text in
     record {
-      two = λ is.
-          c.insert_hash-2.ensures.keeps hash
+      above = λ is.
+          c.insert_hash-3.ensures.keeps hash
+          (c.insert_hash-2.ensures.keeps hash
           (c.insert_hash.ensures.has hash
-          (c.last_two_hash.ensures ∙ ap (λ t. last_two_hash (components t)) (c.as_relative_path-3.ensures ∙ text) ∙ is));
+          (c.last_hash.ensures ∙ ap last_hash c.directory.ensures.components
+          ∙ ap (λ t. last_hash (kept (components t))) (c.as_relative_path-3.ensures ∙ text) ∙ is)));
+      two = λ is.
+          c.insert_hash-3.ensures.keeps hash
+          (c.insert_hash-2.ensures.has hash
+          (c.last_two_hash.ensures ∙ ap (λ t. last_two_hash (components t)) (c.as_relative_path-4.ensures ∙ text) ∙ is));
       three = λ is.
-          c.insert_hash-2.ensures.has hash
-          (c.last_three_hash.ensures ∙ ap (λ t. last_three_hash (components t)) (c.as_relative_path-4.ensures ∙ text) ∙ is);
-      keeps = λ had. c.insert_hash-2.ensures.keeps hash (c.insert_hash.ensures.keeps hash had);
+          c.insert_hash-3.ensures.has hash
+          (c.last_three_hash.ensures ∙ ap (λ t. last_three_hash (components t)) (c.as_relative_path-5.ensures ∙ text) ∙ is);
+      keeps = λ had.
+          c.insert_hash-3.ensures.keeps hash (c.insert_hash-2.ensures.keeps hash (c.insert_hash.ensures.keeps hash had));
     }) lists

@@ -1,7 +1,8 @@
 -- Each turn appends the mentions that begin at the next offset.
-use Rattle.std.proofs.Common.{◌≡◌, arith, subst}
+use Rattle.std.proofs.Common.{◌≡◌, ◌+◌, ◌∙◌, arith, inl, inr, subst, sym, true≢false}
+use Rattle.std.proofs.lemmas.Bool.{cases_lt}
 use Rattle.relmove_mentions.specs.Mentions.{AreMentionsBefore}
-use Rattle.relmove_mentions.proofs.MentionsLemmas.{HaveOthersFrom-later}
+use Rattle.relmove_mentions.proofs.MentionsLemmas.{AreMentionsBefore-skip, HaveOthersFrom-later}
 use Rattle.relmove_mentions.proofs.old_names.OldNames.push_between.Goals as goal
 
 pub loop-start-init : goal.loop-start-init
@@ -18,12 +19,21 @@ push_from-requires-clause-wide c = λ olds has.
     (c.requires.wide olds has)
 
 pub loop-start-preserved : goal.loop-start-preserved
-loop-start-preserved c = record {
-  after = omega (arith, c.loop-start.invariant.after);
-  before = omega (arith, c.loop-start-test.true);
-  passed = λ span later. c.count_passed-passed.ensures span (omega (arith, later));
-  so_far = λ olds has before. c.in_ok-push_from.ensures olds has (c.loop-start.invariant.so_far olds has before);
-}
+loop-start-preserved c =
+    let next = c.next_start-start in
+    record {
+      after = omega (arith, c.loop-start.invariant.after, next.ensures.after);
+      before = next.ensures.before;
+      passed = λ span later. c.count_passed-passed.ensures span (omega (arith, later, next.ensures.after));
+      so_far = λ olds has before.
+          AreMentionsBefore-skip olds c.args.searched.file c.push_from.new.mentions.items (c.loop-start.start + 1) next.result
+          next.ensures.after
+          (λ span old is later. elim (cases_lt span.start next.result) [
+            | inl less ↦ absurd (true≢false (sym is.bounded.before ∙ next.ensures.none span.start later less))
+            | inr more ↦ more
+          ])
+          (c.in_ok-push_from.ensures olds has (c.loop-start.invariant.so_far olds has before));
+    }
 
 pub returns : goal.returns
 returns c = λ olds has before.
