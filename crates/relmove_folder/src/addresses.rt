@@ -1,4 +1,4 @@
-//! Where links lead on a site that shows a page `a.md` as `a/`: from the addresses of pages.
+//! Where links lead on a site that shows a page `a.md` as `a/`, or may: from the addresses of pages.
 use crate::moving_tree::MovingTree;
 use crate::pages_as::{PagesAs, shown_page};
 use crate::tree::{EntryKind, Page, Tree};
@@ -78,17 +78,22 @@ pub(crate) enum FromAddress {
     Lost(String, Option<usize>),
 }
 
-// What the target of an edit leads to from its page's address.
+// What the target of an edit leads to from its page's address. If it isn't known how the site shows its pages, that counts only in
+// an index page that is none after the moves: its address was its directory, and may be another one then.
 pub(crate) fn from_address(
     alloc: Global,
     moving: MovingTree<'_, '_>,
     moved: MovedPage<'_>,
     edit: &Edit,
 ) -> Result<FromAddress, AllocError> {
-    if moving.pages_as != Some(PagesAs::Directory) {
+    let old = RelativePath::new(moved.page.path.as_str());
+    let is_asked = match moving.pages_as {
+        Some(form) => form == PagesAs::Directory,
+        None => is_index_page(old) && !is_index_page(moved.new.as_relative_path()),
+    };
+    if !is_asked {
         return Ok(FromAddress::No);
     }
-    let old = RelativePath::new(moved.page.path.as_str());
     let text = moved.page.text.get(edit.target.start..edit.target.end);
     let Some(place) = place_of(alloc, old, edit, text.unwrap_or(""))? else {
         return Ok(FromAddress::No);
