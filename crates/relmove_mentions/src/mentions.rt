@@ -9,7 +9,7 @@ ghost use Rattle.relative_path_places.specs.Views.{view_text};
 ghost use Rattle.relmove_mentions.specs.Bases.{base_components};
 ghost use Rattle.relmove_mentions.specs.Endings.{IsCandidate, ending_of, may_end};
 ghost use Rattle.relmove_mentions.specs.Mentions.{AreMentionsBefore, HaveAtMost, HaveOthersFrom, IsMention, spans_of};
-ghost use Rattle.relmove_mentions.specs.NameHashes.{short_hash, two_hash};
+ghost use Rattle.relmove_mentions.specs.NameHashes.{hash_of, short_hash, two_hash};
 ghost use Rattle.relmove_mentions.specs.OldNames.{Finds, Has, WithOthers, may_have_two};
 ghost use Rattle.relmove_mentions.specs.Spans.{
   ArePassed,
@@ -41,7 +41,7 @@ use crate::bases::Base;
 use crate::endings::{Ending, with_word};
 use crate::file_text::FileText;
 use crate::hashes::Hashes;
-use crate::name_hashes::{last_three_hash, last_two_hash, short_hash, two_hash};
+use crate::name_hashes::{hash_of, last_three_hash, last_two_hash, short_hash, two_hash};
 use crate::old_names::OldNames;
 use crate::searched_file::{SearchedFile, bases_of};
 use crate::text_span::{
@@ -376,8 +376,7 @@ impl<'p> OldNames<'p> {
     }
 
     // Returns whether bytes that end so may write an old path in a file with these directories. So many of them aren't path
-    // bytes. A name alone leads from one of the directories, so a name of the path ends in the directory's last name and this
-    // one: most words of a text end here.
+    // bytes. If they are a name alone, it is known what they end in, and most words of a text end here.
     fn may_write(
         &self,
         directories: &[Base<'_>],
@@ -427,6 +426,9 @@ impl<'p> OldNames<'p> {
         ensures { IfOk result (λ found. (olds : List (List ℕ)) → Has olds self.now
             → Finds olds (WithOthers others (StandsFor olds searched.entry.file text.now)) found) }
     {
+        if !self.may_stand(searched.directories, text) {
+            return Ok(None);
+        }
         let Ok(text) = str::from_utf8(text) else {
             return Ok(None);
         };
@@ -447,6 +449,15 @@ impl<'p> OldNames<'p> {
             return Ok(Some(old));
         }
         self.find_from_top(alloc, searched, others, path)
+    }
+
+    // Returns whether a text may stand for an old path in a file with these directories: whether it has a slash, or a name of an old
+    // path ends in the last name of one of them and then in this name alone.
+    fn may_stand(&self, directories: &[Base<'_>], text: &[u8]) -> bool
+        ensures { result ≡ (list_any is_slash text.now
+            || list_any (λ (base : Base). may_have_two self.now (two_hash base.name (Some (hash_of text.now)))) directories.now) }
+    {
+        has_slash(text) || self.may_have_below(directories, Some(hash_of(text)))
     }
 
     // Returns whether a name of an old path may end in the last name of one of these bases, and then in a name with this hash.

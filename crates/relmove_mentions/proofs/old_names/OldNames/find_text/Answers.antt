@@ -1,15 +1,30 @@
--- From the directory the text leads to no path, so what it leads to from the top is all.
-use Rattle.std.proofs.Common.{◌≡◌, IsSome, None, ap, refl, subst, sym, true≢false, ◌∙◌}
+-- A text that can't stand for a path doesn't. From the directory another one leads to no path, so what it leads to from the top
+-- is all.
+use Rattle.std.proofs.Common.{◌≡◌, IsSome, None, Some, ap, refl, subst, sym, true≢false, ◌∙◌}
+use Rattle.std.specs.List.{list_any}
+use Rattle.std.proofs.lemmas.Bool.{or_parts}
 use Rattle.std.proofs.lemmas.Result.{IfOk-weaker}
 use Rattle.relative_path.specs.Naming.{file_name_of}
 use Rattle.relative_path.specs.RelativePath.{path_text}
-use Rattle.relative_path.specs.Steps.{components}
-use Rattle.relmove_mentions.specs.NameHashes.{last_three_hash, last_two_hash}
+use Rattle.relative_path.specs.Steps.{components, is_slash}
+use Rattle.relmove_mentions.specs.NameHashes.{hash_of, last_three_hash, last_two_hash, two_hash}
 use Rattle.relmove_mentions.specs.OldNames.{Finds, WithOthers, may_have_two}
 use Rattle.relmove_mentions.specs.Written.{LeadsFromDirectory, LeadsFromTop}
 use Rattle.relmove_mentions.proofs.OldNamesLemmas.{Finds-second, StandsFor-last, StandsFor-last_three, StandsFor-last_two}
-use Rattle.relmove_mentions.proofs.WrittenLemmas.{Finds-text}
+use Rattle.relmove_mentions.specs.declared.bases.Base.{Base}
+use Rattle.relmove_mentions.proofs.WrittenLemmas.{Finds-text, StandsFor-alone}
 use Rattle.relmove_mentions.proofs.old_names.OldNames.find_text.Goals as goal
+
+pub returns-then-not-may_stand : goal.returns-then-not-may_stand
+returns-then-not-may_stand c = λ olds has old is_old (some, stands).
+    let text = c.args.text.now in
+    let (none, no_base) = or_parts (list_any is_slash text)
+    (list_any (λ (base : Base). may_have_two c.args.self.now (two_hash base.name (Some (hash_of text)))) c.args.searched.directories.now)
+    (sym c.may_stand.ensures ∙ c.if-not-may_stand.true) in
+    true≢false
+    (sym (StandsFor-alone olds c.args.self.now c.args.searched.file c.args.searched.directories.now text old has is_old
+    c.args.searched.directories_same none stands)
+    ∙ no_base)
 
 pub returns-then-not-may_have_last : goal.returns-then-not-may_have_last
 returns-then-not-may_have_last c = λ olds has old is_old (some, stands).
