@@ -21,38 +21,31 @@ use Rattle.relmove_mentions.specs.declared.endings.Ending.{Ending}
 
 -- ---- one more byte
 
-or_false : (a b : Bool) → a ≡ false → b ≡ false → (a || b) ≡ false
-or_false true b first second = absurd (true≢false first)
-or_false false b first second = second
-
 next-slash : (e : Ending) (b : ℕ) → is_slash b ≡ true
     → next_ending e b ≡ record { hash = e.hash; encoded = e.encoded; ended = true }
 next-slash e b is = cond-true (is_slash b) _ _ is
 
--- after an end, and at a byte that doesn't go on a path, others begin
-next-anew : (e : Ending) (b : ℕ) → is_slash b ≡ false → (e.ended || is_other_byte b) ≡ true
-    → next_ending e b ≡ with_byte no_ending b
-next-anew e b plain is =
-    cond-false (is_slash b) _ _ plain ∙ ap (λ f. with_byte f b) (cond-true (e.ended || is_other_byte b) no_ending e is)
+-- after an end another word begins
+next-anew : (e : Ending) (b : ℕ) → is_slash b ≡ false → e.ended ≡ true → next_ending e b ≡ with_byte no_ending b
+next-anew e b plain is = cond-false (is_slash b) _ _ plain ∙ ap (λ f. with_byte f b) (cond-true e.ended no_ending e is)
 
-next-path : (e : Ending) (b : ℕ) → is_slash b ≡ false → is_other_byte b ≡ false → e.ended ≡ false
-    → next_ending e b ≡ with_byte e b
-next-path e b plain path goes_on =
-    cond-false (is_slash b) _ _ plain
-    ∙ ap (λ f. with_byte f b) (cond-false (e.ended || is_other_byte b) no_ending e (or_false e.ended (is_other_byte b) goes_on path))
+-- otherwise the word goes on
+next-within : (e : Ending) (b : ℕ) → is_slash b ≡ false → e.ended ≡ false → next_ending e b ≡ with_byte e b
+next-within e b plain goes_on =
+    cond-false (is_slash b) _ _ plain ∙ ap (λ f. with_byte f b) (cond-false e.ended no_ending e goes_on)
+
+or_none : (a : Bool) → (a || false) ≡ a
+or_none true = refl
+or_none false = refl
 
 -- a plain byte adds to the hash alone
 pub next-plain : (e : Ending) (b : ℕ) → is_path_byte b ≡ true → (b == percent_sign) ≡ false → is_slash b ≡ false
     → e.ended ≡ false → next_ending e b ≡ record { hash = next_hash e.hash b; encoded = e.encoded; ended = e.ended }
 next-plain e b path encoded plain goes_on =
-    next-path e b plain (ap not path) goes_on
+    next-within e b plain goes_on
     ∙ ap₂ (ending_with (next_hash e.hash b)) (ap (λ c. e.encoded || c) encoded ∙ or_none e.encoded) (ap not path ∙ sym goes_on) where
       ending_with : ℕ → Bool → Bool → Ending
       ending_with hash first ended = record { hash = hash; encoded = first; ended = ended }
-
-      or_none : (a : Bool) → (a || false) ≡ a
-      or_none true = refl
-      or_none false = refl
 
 -- an other byte is no slash
 pub other-not_slash : (b : ℕ) → is_other_byte b ≡ true → is_slash b ≡ false
@@ -65,20 +58,11 @@ other-not_slash b other = elim (cases_Bool (is_slash b)) [
 
 -- at a byte that doesn't go on a path, the text ends
 pub next-other : (e : Ending) (b : ℕ) → is_slash b ≡ false → is_other_byte b ≡ true → (next_ending e b).ended ≡ true
-next-other e b plain other =
-    ap (λ (f : Ending). f.ended) (next-anew e b plain (or_right e.ended (is_other_byte b) other)) ∙ other
+next-other e b plain other = ap (λ (f : Ending). f.ended) (cond-false (is_slash b) _ _ plain) ∙ other
 
--- so what comes before it doesn't matter
-next-others : (e f : Ending) (b : ℕ) → is_slash b ≡ false → is_other_byte b ≡ true → next_ending e b ≡ next_ending f b
-next-others e f b plain other =
-    next-anew e b plain (or_right e.ended (is_other_byte b) other)
-    ∙ sym (next-anew f b plain (or_right f.ended (is_other_byte b) other))
-
--- nor after an end
+-- after an end it doesn't matter what came before
 restart : (e f : Ending) (b : ℕ) → e.ended ≡ true → f.ended ≡ true → is_slash b ≡ false → next_ending e b ≡ next_ending f b
-restart e f b ended also plain =
-    next-anew e b plain (or_left e.ended (is_other_byte b) ended)
-    ∙ sym (next-anew f b plain (or_left f.ended (is_other_byte b) also))
+restart e f b ended also plain = next-anew e b plain ended ∙ sym (next-anew f b plain also)
 
 pub fold-ended : (text : List ℕ) (e f : Ending) → e.ended ≡ true → f.ended ≡ true → has_name text ≡ true
     → fold next_ending e text ≡ fold next_ending f text
@@ -123,15 +107,11 @@ abbrev GoesOn : Ending → List ℕ → Ending → Type 0
 GoesOn before text after = (after.hash ≡ fold next_hash before.hash text)
     × (after.encoded ≡ (before.encoded || list_any (λ b. b == percent_sign) text))
 
-or_none : (a : Bool) → a ≡ (a || false)
-or_none true = refl
-or_none false = refl
-
 goes_on : (text : List ℕ) (e : Ending) → e.ended ≡ false → IsAlone text → GoesOn e text (fold next_ending e text)
-goes_on [] e goes alone = (refl, or_none e.encoded)
+goes_on [] e goes alone = (refl, sym (or_none e.encoded))
 goes_on (b ∷ bs) e goes alone =
     let (plain, (path, rest)) = alone-rest b bs alone in
-    let next : next_ending e b ≡ with_byte e b = next-path e b plain path goes in
+    let next : next_ending e b ≡ with_byte e b = next-within e b plain goes in
     let (hash, encoded) = goes_on bs (with_byte e b) path rest in (
       ap (λ f. (fold next_ending f bs).hash) next ∙ hash,
       ap (λ f. (fold next_ending f bs).encoded) next ∙ encoded
@@ -357,7 +337,7 @@ Follows-encoded e f (encoded, plain) = inr (encoded, λ is. absurd (true≢false
 encoded-next : (e : Ending) (b : ℕ) → is_slash b ≡ false → is_other_byte b ≡ false → IsEncoded e
     → IsEncoded (next_ending e b)
 encoded-next e b plain path (encoded, goes_on) =
-    let is : next_ending e b ≡ with_byte e b = next-path e b plain path goes_on in (
+    let is : next_ending e b ≡ with_byte e b = next-within e b plain goes_on in (
       ap (λ (g : Ending). g.encoded) is ∙ or_left e.encoded (b == percent_sign) encoded,
       ap (λ (g : Ending). g.ended) is ∙ path,
     )
@@ -367,12 +347,14 @@ Follows-next e f b (inl same) = inl (ap (λ g. next_ending g b) same)
 Follows-next e f b (inr (encoded, goes)) = elim (cases_Bool (is_slash b)) [
   | inl is ↦
       inr (ap (λ (g : Ending). g.encoded) (next-slash e b is) ∙ encoded, λ _. ap (λ (g : Ending). g.ended) (next-slash f b is))
-  | inr plain ↦ elim (cases_Bool (is_other_byte b)) [
-    | inl other ↦ inl (next-others e f b plain other)
-    | inr path ↦ elim (cases_Bool e.ended) [
-      | inl ended ↦ inl (restart e f b ended (goes ended) plain)
-      | inr goes_on ↦ Follows-encoded (next_ending e b) (next_ending f b) (encoded-next e b plain path (encoded, goes_on))
-    ]
+  | inr plain ↦ elim (cases_Bool e.ended) [
+    | inl ended ↦ inl (restart e f b ended (goes ended) plain)
+    | inr goes_on ↦
+        inr (
+          ap (λ (g : Ending). g.encoded) (next-within e b plain goes_on) ∙ or_left e.encoded (b == percent_sign) encoded,
+          λ is.
+              next-other f b plain (sym (ap (λ (g : Ending). g.ended) (next-within e b plain goes_on)) ∙ is),
+        )
   ]
 ]
 
@@ -403,7 +385,7 @@ encoded-percent : (e : Ending) → IsEncoded (next_ending e percent_sign)
 encoded-percent e = elim (cases_Bool e.ended) [
   | inl ended ↦ subst IsEncoded (sym (restart e no_ending percent_sign ended refl refl)) (refl, refl)
   | inr goes_on ↦
-      subst IsEncoded (sym (next-path e percent_sign refl refl goes_on)) (or_right e.encoded true refl, refl)
+      subst IsEncoded (sym (next-within e percent_sign refl goes_on)) (or_right e.encoded true refl, refl)
 ]
 
 Follows-escape : (e f : Ending) (b high low v : ℕ) → is_escape b high low ≡ true

@@ -32,7 +32,7 @@ use Rattle.relmove_mentions.specs.First.{IsFirst}
 use Rattle.relmove_mentions.specs.Hashes.{may_have}
 use Rattle.relmove_mentions.specs.Names.{bare_names, directory_names, has_steps, index_names, is_bare_name, is_index_page, is_page, most_others, names_of, page_names}
 use Rattle.relmove_mentions.specs.Spans.{others_in}
-use Rattle.relmove_mentions.specs.OldNames.{Finds, Has, HasLastName, HasText, Lists, PathName, WithOthers, all_names, may_have_two, with_names}
+use Rattle.relmove_mentions.specs.OldNames.{Finds, Has, HasLastName, HasText, Lists, PathName, WithOthers, all_names, may_end_in, with_names}
 use Rattle.relmove_mentions.specs.Written.{LeadsFrom, LeadsToName, LeadsToPath, StandsFor}
 use Rattle.relmove_mentions.specs.declared.file_text.FileText.{FileText}
 use Rattle.relmove_mentions.specs.declared.old_names.OldNames.{OldNames}
@@ -51,10 +51,10 @@ HasLast old new text path = (n : List ℕ) → (file_name_of text ≡ Some n →
 
 -- the set has the hash, if it is that of the name before the last, or of the last two or three names of the text, or if it had it
 pub record HasHash (old new : OldNames) (text : List ℕ) (hash : ℕ) : Type 0 where
-  pub above : last_hash (kept (components text)) ≡ Some hash → may_have new.last_twos hash ≡ true
-  pub two : last_two_hash (components text) ≡ Some hash → may_have new.last_twos hash ≡ true
-  pub three : last_three_hash (components text) ≡ Some hash → may_have new.last_twos hash ≡ true
-  pub keeps : may_have old.last_twos hash ≡ true → may_have new.last_twos hash ≡ true
+  pub above : last_hash (kept (components text)) ≡ Some hash → may_have new.last_names hash ≡ true
+  pub two : last_two_hash (components text) ≡ Some hash → may_have new.last_names hash ≡ true
+  pub three : last_three_hash (components text) ≡ Some hash → may_have new.last_names hash ≡ true
+  pub keeps : may_have old.last_names hash ≡ true → may_have new.last_names hash ≡ true
 
 -- it has each such hash
 abbrev pub HasLastTwo : OldNames → OldNames → List ℕ → Type 0
@@ -210,7 +210,7 @@ Lists-insert names path name old new text normal inserted has_last has_two lists
       ]
 
       above : (o : List ℕ) (steps front : List Step) (d n : List ℕ) → Contains more (o, steps)
-          → IsSame (front ++ named d ∷ named n ∷ []) steps → may_have_two new (Some (hash_of d)) ≡ true
+          → IsSame (front ++ named d ∷ named n ∷ []) steps → may_end_in new (Some (hash_of d)) ≡ true
       above o steps front d n has same = elim (Contains-push_cases names (view_text path, name) (o, steps) has) [
         | inl before ↦ (has_two (hash_of d)).keeps (lists.above o steps front d n before same)
         | inr is ↦
@@ -220,7 +220,7 @@ Lists-insert names path name old new text normal inserted has_last has_two lists
       ]
 
       last_two : (o : List ℕ) (steps front : List Step) (d n : List ℕ) → Contains more (o, steps)
-          → IsSame (front ++ named d ∷ named n ∷ []) steps → may_have_two new (two_hash (Some (hash_of d)) (Some (hash_of n))) ≡ true
+          → IsSame (front ++ named d ∷ named n ∷ []) steps → may_end_in new (two_hash (Some (hash_of d)) (Some (hash_of n))) ≡ true
       last_two o steps front d n has same =
           let two = (hash_of d * 1000003 % 2 ^ 64 + hash_of n) % 2 ^ 64 in
           elim (Contains-push_cases names (view_text path, name) (o, steps) has) [
@@ -233,7 +233,7 @@ Lists-insert names path name old new text normal inserted has_last has_two lists
 
       last_three : (o : List ℕ) (steps front : List Step) (d m n : List ℕ) → Contains more (o, steps)
           → IsSame (front ++ named d ∷ named m ∷ named n ∷ []) steps
-          → may_have_two new (two_hash (Some (hash_of d)) (two_hash (Some (hash_of m)) (Some (hash_of n)))) ≡ true
+          → may_end_in new (two_hash (Some (hash_of d)) (two_hash (Some (hash_of m)) (Some (hash_of n)))) ≡ true
       last_three o steps front d m n has same =
           let two = (hash_of m * 1000003 % 2 ^ 64 + hash_of n) % 2 ^ 64 in
           let three = (hash_of d * 1000003 % 2 ^ 64 + two) % 2 ^ 64 in
@@ -540,59 +540,52 @@ StandsFor-last olds set file text n old has is_old is stands =
     has.lists.last old steps (front ++ kept (components text)) n listed
     (subst (λ cs. IsSame cs steps) (sym (append_assoc front (kept (components text)) (named n ∷ []))) same))
 
--- a list that ends in a name after a list with a last name
-IsSame-two : (cs front : List Step) (d n : List ℕ) → IsSame cs (front ++ named n ∷ []) → last_name front ≡ Some d
-    → IsSame cs (kept front ++ named d ∷ named n ∷ [])
-IsSame-two cs front d n same above =
-    subst (IsSame cs) (append_assoc (kept front) (named d ∷ []) (named n ∷ []))
-    (IsSame-trans same (IsSame-append_right (named n ∷ []) (IsSame-last_name front d above)))
+-- a list that ends so after a list with a last name
+IsSame-name_before : (cs front rest : List Step) (d : List ℕ) → IsSame cs (front ++ rest) → last_name front ≡ Some d
+    → IsSame cs (kept front ++ named d ∷ rest)
+IsSame-name_before cs front rest d same above =
+    subst (IsSame cs) (append_assoc (kept front) (named d ∷ []) rest)
+    (IsSame-trans same (IsSame-append_right rest (IsSame-last_name front d above)))
 
 -- and its last two names
 pub StandsFor-last_two : (olds : List (List ℕ)) (set : OldNames) (file : FileText) (text old : List ℕ) → Has olds set
-    → Contains olds old → StandsFor olds file text old → may_have_two set (last_two_hash (components text)) ≡ true
+    → Contains olds old → StandsFor olds file text old → may_end_in set (last_two_hash (components text)) ≡ true
 StandsFor-last_two olds set file text old has is_old stands =
     of (last_name (kept cs)) (last_name cs) refl refl where
       cs : List Step
       cs = components text
 
       of : (b a : Option (List ℕ)) → last_name (kept cs) ≡ b → last_name cs ≡ a
-          → may_have_two set (two_hash (option_map hash_of b) (option_map hash_of a)) ≡ true
+          → may_end_in set (two_hash (option_map hash_of b) (option_map hash_of a)) ≡ true
       of b None above is = refl
       of None (Some n) above is = refl
       of (Some d) (Some n) above is =
           let front = kept (kept cs) in
-          let same : IsSame cs (front ++ named d ∷ named n ∷ []) = IsSame-two cs (kept cs) d n (IsSame-last_name cs n is) above in
+          let same : IsSame cs (front ++ named d ∷ named n ∷ []) =
+          IsSame-name_before cs (kept cs) (named n ∷ []) d (IsSame-last_name cs n is) above in
           StandsFor-ends olds file text (front ++ named d ∷ named n ∷ []) old _ is_old same stands
           (λ steps base listed leads.
           has.lists.last_two old steps (base ++ front) d n listed
           (subst (λ ds. IsSame ds steps) (sym (append_assoc base front (named d ∷ named n ∷ []))) leads))
 
--- a list whose last names these are leads to what ends in them
-IsSame-three : (cs : List Step) (d m n : List ℕ) → last_name (kept (kept cs)) ≡ Some d → last_name (kept cs) ≡ Some m
-    → last_name cs ≡ Some n → IsSame cs (kept (kept (kept cs)) ++ named d ∷ named m ∷ named n ∷ [])
-IsSame-three cs d m n first second third =
-    let above : IsSame (kept cs) (kept (kept (kept cs)) ++ named d ∷ named m ∷ []) =
-    IsSame-two (kept cs) (kept (kept cs)) d m (IsSame-last_name (kept cs) m second) first in
-    subst (IsSame cs) (append_assoc (kept (kept (kept cs))) (named d ∷ named m ∷ []) (named n ∷ []))
-    (IsSame-trans (IsSame-last_name cs n third) (IsSame-append_right (named n ∷ []) above))
-
 -- and its last three names
 pub StandsFor-last_three : (olds : List (List ℕ)) (set : OldNames) (file : FileText) (text old : List ℕ) → Has olds set
-    → Contains olds old → StandsFor olds file text old → may_have_two set (last_three_hash (components text)) ≡ true
+    → Contains olds old → StandsFor olds file text old → may_end_in set (last_three_hash (components text)) ≡ true
 StandsFor-last_three olds set file text old has is_old stands =
     of (last_name (kept (kept cs))) (last_name (kept cs)) (last_name cs) refl refl refl where
       cs : List Step
       cs = components text
 
       of : (c b a : Option (List ℕ)) → last_name (kept (kept cs)) ≡ c → last_name (kept cs) ≡ b → last_name cs ≡ a
-          → may_have_two set (two_hash (option_map hash_of c) (two_hash (option_map hash_of b) (option_map hash_of a))) ≡ true
+          → may_end_in set (two_hash (option_map hash_of c) (two_hash (option_map hash_of b) (option_map hash_of a))) ≡ true
       of c b None first second third = refl
       of c None (Some n) first second third = refl
       of None (Some m) (Some n) first second third = refl
       of (Some d) (Some m) (Some n) first second third =
           let front = kept (kept (kept cs)) in
+          let two = IsSame-name_before cs (kept cs) (named n ∷ []) m (IsSame-last_name cs n third) second in
           StandsFor-ends olds file text (front ++ named d ∷ named m ∷ named n ∷ []) old _ is_old
-          (IsSame-three cs d m n first second third) stands
+          (IsSame-name_before cs (kept (kept cs)) (named m ∷ named n ∷ []) d two first) stands
           (λ steps base listed leads.
           has.lists.last_three old steps (base ++ front) d m n listed
           (subst (λ ds. IsSame ds steps) (sym (append_assoc base front (named d ∷ named m ∷ named n ∷ []))) leads))
@@ -603,12 +596,12 @@ has_steps-none (c ∷ cs) is = absurd (true≢false is)
 
 -- and the last name of a directory, and then a name alone
 pub LeadsToPath-two : (olds : List (List ℕ)) (set : OldNames) (base cs : List Step) (old : List ℕ) → Has olds set
-    → Contains olds old → LeadsToPath olds (base ++ cs) old → may_have_two set (two_hash (last_hash base) (name_alone cs)) ≡ true
+    → Contains olds old → LeadsToPath olds (base ++ cs) old → may_end_in set (two_hash (last_hash base) (name_alone cs)) ≡ true
 LeadsToPath-two olds set base cs old has is_old first_leads =
     of (last_name base) (has_steps (kept cs)) (last_name cs) refl refl refl where
       of : (b : Option (List ℕ)) (more : Bool) (a : Option (List ℕ)) → last_name base ≡ b → has_steps (kept cs) ≡ more
           → last_name cs ≡ a
-          → may_have_two set (two_hash (option_map hash_of b) (cond more None (option_map hash_of a))) ≡ true
+          → may_end_in set (two_hash (option_map hash_of b) (cond more None (option_map hash_of a))) ≡ true
       of b true a above none is = refl
       of b false None above none is = refl
       of None false (Some n) above none is = refl
@@ -617,32 +610,32 @@ LeadsToPath-two olds set base cs old has is_old first_leads =
           let alone : IsSame cs (named n ∷ []) =
           subst (λ front. IsSame cs (front ++ named n ∷ [])) (has_steps-none (kept cs) none) (IsSame-last_name cs n is) in
           let same : IsSame (base ++ cs) (kept base ++ named d ∷ named n ∷ []) =
-          IsSame-two (base ++ cs) base d n (IsSame-append_left base alone) above in
+          IsSame-name_before (base ++ cs) base (named n ∷ []) d (IsSame-append_left base alone) above in
           has.lists.last_two old leads.name (kept base) d n (all_names-Contains olds old leads.name is_old leads.is_name)
           (IsSame-trans (IsSame-sym same) leads.same)
 
 -- and the last name of a directory, if a name alone leads from there
 pub LeadsToPath-above : (olds : List (List ℕ)) (set : OldNames) (base : List Step) (n old : List ℕ) → Has olds set
-    → Contains olds old → LeadsToPath olds (base ++ named n ∷ []) old → may_have_two set (last_hash base) ≡ true
+    → Contains olds old → LeadsToPath olds (base ++ named n ∷ []) old → may_end_in set (last_hash base) ≡ true
 LeadsToPath-above olds set base n old has is_old first_leads = of (last_name base) refl where
-  of : (b : Option (List ℕ)) → last_name base ≡ b → may_have_two set (option_map hash_of b) ≡ true
+  of : (b : Option (List ℕ)) → last_name base ≡ b → may_end_in set (option_map hash_of b) ≡ true
   of None above = refl
   of (Some d) above =
       let cs : List Step = named n ∷ [] in
       let leads : LeadsToName (base ++ cs) old = IsFirst-holds (LeadsToName (base ++ cs)) olds old first_leads in
       let same : IsSame (base ++ cs) (kept base ++ named d ∷ named n ∷ []) =
-      IsSame-two (base ++ cs) base d n (IsSame-refl (base ++ cs)) above in
+      IsSame-name_before (base ++ cs) base (named n ∷ []) d (IsSame-refl (base ++ cs)) above in
       has.lists.above old leads.name (kept base) d n (all_names-Contains olds old leads.name is_old leads.is_name)
       (IsSame-trans (IsSame-sym same) leads.same)
 
 -- and the last name of a directory, and then two names
 LeadsToPath-three : (olds : List (List ℕ)) (set : OldNames) (base cs : List Step) (old : List ℕ) → Has olds set
     → Contains olds old → LeadsToPath olds (base ++ cs) old → has_steps (kept (kept cs)) ≡ false
-    → may_have_two set (two_hash (last_hash base) (last_two_hash cs)) ≡ true
+    → may_end_in set (two_hash (last_hash base) (last_two_hash cs)) ≡ true
 LeadsToPath-three olds set base cs old has is_old first_leads none =
     of (last_name base) (last_name (kept cs)) (last_name cs) refl refl refl where
       of : (b a l : Option (List ℕ)) → last_name base ≡ b → last_name (kept cs) ≡ a → last_name cs ≡ l
-          → may_have_two set (two_hash (option_map hash_of b) (two_hash (option_map hash_of a) (option_map hash_of l))) ≡ true
+          → may_end_in set (two_hash (option_map hash_of b) (two_hash (option_map hash_of a) (option_map hash_of l))) ≡ true
       of b a None above middle is = refl
       of b None (Some n) above middle is = refl
       of None (Some m) (Some n) above middle is = refl
@@ -650,25 +643,23 @@ LeadsToPath-three olds set base cs old has is_old first_leads none =
           let leads : LeadsToName (base ++ cs) old = IsFirst-holds (LeadsToName (base ++ cs)) olds old first_leads in
           let two : IsSame cs (named m ∷ named n ∷ []) =
           subst (λ front. IsSame cs (front ++ named m ∷ named n ∷ [])) (has_steps-none (kept (kept cs)) none)
-          (IsSame-two cs (kept cs) m n (IsSame-last_name cs n is) middle) in
+          (IsSame-name_before cs (kept cs) (named n ∷ []) m (IsSame-last_name cs n is) middle) in
           let same : IsSame (base ++ cs) (kept base ++ named d ∷ named m ∷ named n ∷ []) =
-          subst (IsSame (base ++ cs)) (append_assoc (kept base) (named d ∷ []) (named m ∷ named n ∷ []))
-          (IsSame-trans (IsSame-append_left base two)
-          (IsSame-append_right (named m ∷ named n ∷ []) (IsSame-last_name base d above))) in
+          IsSame-name_before (base ++ cs) base (named m ∷ named n ∷ []) d (IsSame-append_left base two) above in
           has.lists.last_three old leads.name (kept base) d m n
           (all_names-Contains olds old leads.name is_old leads.is_name) (IsSame-trans (IsSame-sym same) leads.same)
 
 -- and then one name or two
 pub LeadsToPath-short : (olds : List (List ℕ)) (set : OldNames) (base cs : List Step) (old : List ℕ) → Has olds set
-    → Contains olds old → LeadsToPath olds (base ++ cs) old → may_have_two set (two_hash (last_hash base) (short_hash cs)) ≡ true
+    → Contains olds old → LeadsToPath olds (base ++ cs) old → may_end_in set (two_hash (last_hash base) (short_hash cs)) ≡ true
 LeadsToPath-short olds set base cs old has is_old leads =
     of (has_steps (kept cs)) (has_steps (kept (kept cs))) refl refl where
       of : (more above : Bool) → has_steps (kept cs) ≡ more → has_steps (kept (kept cs)) ≡ above
-          → may_have_two set (two_hash (last_hash base) (cond more (cond above None (last_two_hash cs)) (last_hash cs))) ≡ true
+          → may_end_in set (two_hash (last_hash base) (cond more (cond above None (last_two_hash cs)) (last_hash cs))) ≡ true
       of true true some above = refl
       of true false some none = LeadsToPath-three olds set base cs old has is_old leads none
       of false above none some =
-          ap (λ more. may_have_two set (two_hash (last_hash base) (cond more None (last_hash cs)))) (sym none)
+          ap (λ more. may_end_in set (two_hash (last_hash base) (cond more None (last_hash cs)))) (sym none)
           ∙ LeadsToPath-two olds set base cs old has is_old leads
 
 -- ---- a search from one directory after another

@@ -246,31 +246,30 @@ goes_on-inside text at inside =
     let (within, goes_on) = or_parts (nat_le (length text) at) (is_other_byte (get_or text at 0)) open_ in
     goes_on
 
--- so many bytes before which no path ends have none of those that don't go on a path
-others_in-so_many : (text : List ℕ) (start mid n : ℕ) → start ≤ mid → mid + n ≤ length text
-    → ((at : ℕ) → mid ≤ at → at < mid + n → is_bounded_after text at ≡ false)
-    → others_in (take (mid + n - start) (drop start text)) ≡ others_in (take (mid - start) (drop start text))
-others_in-so_many text start mid zero order within inside =
-    let same : mid + 0 ≡ mid = omega arith in ap (λ end. others_in (take (end - start) (drop start text))) same
-others_in-so_many text start mid (suc n) order within inside =
-    let next : mid + suc n ≡ mid + n + 1 = omega arith in
-    let less : mid + n < mid + suc n = omega arith in
-    let none : cond {A = ℕ} (is_other_byte (get_or text (mid + n) 0)) 1 0 ≡ 0 =
-    ap (λ b. cond b 1 0) (goes_on-inside text (mid + n) (inside (mid + n) (omega arith) less)) in
-    let so_far = others_in-so_many text start mid n order (omega (arith, within, next))
-    (λ at later before. inside at later (omega (arith, before, less))) in
-    ap (λ end. others_in (take (end - start) (drop start text))) next
-    ∙ omega (arith, others_in-step text start (mid + n) (omega (arith, order)) (omega (arith, within, next)), none, so_far)
+-- a text without bytes that don't go on a path has none of them
+others_in-zero : (text : List ℕ) → list_any is_other_byte text ≡ false → others_in text ≡ 0
+others_in-zero [] none = refl
+others_in-zero (b ∷ bs) none =
+    let (path, rest) = or_parts (is_other_byte b) (list_any is_other_byte bs) none in
+    let more : others_in (b ∷ bs) ≡ cond (is_other_byte b) 1 0 + others_in bs =
+    sum_by-cons (λ c. cond (is_other_byte c) 1 0) b bs in
+    let first : cond {A = ℕ} (is_other_byte b) 1 0 ≡ 0 = ap (λ t. cond t 1 0) path in
+    omega (arith, more, first, others_in-zero bs rest)
 
--- nor have those up to an offset
+-- nor have the bytes before which no path ends
 pub others_in-inside : (text : List ℕ) (start mid end : ℕ) → start ≤ mid → mid ≤ end → end ≤ length text
     → ((at : ℕ) → mid ≤ at → at < end → is_bounded_after text at ≡ false)
     → others_in (take (end - start) (drop start text)) ≡ others_in (take (mid - start) (drop start text))
 others_in-inside text start mid end order later within inside =
-    let same : mid + (end - mid) ≡ end = omega (arith, later) in
-    ap (λ last. others_in (take (last - start) (drop start text))) (sym same)
-    ∙ others_in-so_many text start mid (end - mid) order (omega (arith, later, within))
-    (λ at after before. inside at after (omega (arith, before, same)))
+    let none : others_in (take (end - mid) (drop mid text)) ≡ 0 =
+    others_in-zero (take (end - mid) (drop mid text))
+    (list_any-none is_other_byte text mid end later within (λ at after before. goes_on-inside text at (inside at after before))) in
+    omega (
+      arith,
+      ap others_in (take-after text start mid end order later)
+          ∙ sum_by-append (λ b. cond (is_other_byte b) 1 0) (take (mid - start) (drop start text)) (take (end - mid) (drop mid text)),
+      none,
+    )
 
 -- ---- the spans after so many
 

@@ -1,5 +1,5 @@
 -- When a text stands for an old path, and when bytes write one.
-use Rattle.std.proofs.Common.{◌≡◌, ◌⊎◌, ◌<◌, ℕ, Bool, not, true, false, ◌||◌, ◌==◌, List, [], ◌∷◌, ◌++◌, Option, None, Some, IsSome, inl, inr, refl, sym, ap, ◌∙◌, subst, true≢false, arith, cond, length, map}
+use Rattle.std.proofs.Common.{◌≡◌, ◌⊎◌, ◌<◌, ◌≤◌, ℕ, Bool, not, true, false, ◌||◌, ◌==◌, List, [], ◌∷◌, ◌++◌, Option, None, Some, IsSome, inl, inr, refl, sym, ap, ◌∙◌, subst, true≢false, arith, cond, length, map}
 use Rattle.std.specs.Prelude.{nat_lt}
 use Rattle.std.specs.List.{Contains, list_any}
 use Rattle.std.specs.Option.{option_map}
@@ -18,7 +18,7 @@ use Rattle.relmove_mentions.specs.Endings.{ending_of, has_name, may_end}
 use Rattle.relmove_mentions.specs.Hashes.{may_have}
 use Rattle.relmove_mentions.specs.NameHashes.{hash_of, last_hash, name_alone, two_hash}
 use Rattle.relmove_mentions.specs.Names.{has_steps}
-use Rattle.relmove_mentions.specs.OldNames.{Finds, Has, WithOthers, may_have_two}
+use Rattle.relmove_mentions.specs.OldNames.{Finds, Has, WithOthers, endings_for, may_end_in}
 use Rattle.relmove_mentions.specs.Spans.{may_separate, others_in}
 use Rattle.relmove_mentions.specs.Written.{IsWritten, LeadsFromDirectory, LeadsFromTop, LeadsToPath, StandsFor}
 use Rattle.relmove_mentions.specs.declared.bases.Base.{Base}
@@ -117,6 +117,17 @@ may_end-with_others olds set file bytes old has is_old some written =
     may_end-bytes olds set.endings_with_others file bytes old
     (λ t n stands is. (StandsFor-last olds set file t n old has is_old is stands).with_others some) written
 
+-- and with so many of the bytes that don't go on a path
+pub may_end-for : (olds : List (List ℕ)) (set : OldNames) (file : FileText) (bytes old : List ℕ) (others : ℕ) → Has olds set
+    → Contains olds old → others ≤ others_in old → IsWritten olds file bytes old
+    → may_end (endings_for set others) (ending_of bytes) ≡ true
+may_end-for olds set file bytes old others has is_old few written = of (others == 0) refl where
+  of : (none : Bool) → (others == 0) ≡ none
+      → may_end (cond none set.endings set.endings_with_others) (ending_of bytes) ≡ true
+  of true none = may_end-written olds set file bytes old has is_old written
+  of false some =
+      may_end-with_others olds set file bytes old has is_old (omega (arith, few, eqb-false others 0 some)) written
+
 -- ---- bytes that write an old path have a name
 
 -- slashes are decoded to themselves
@@ -195,20 +206,20 @@ from-directory olds file bases text old may same none stands holds = of (file_na
 pub StandsFor-alone : (olds : List (List ℕ)) (set : OldNames) (file : FileText) (bases : List Base) (text old : List ℕ)
     → Has olds set → Contains olds old → map base_text bases ≡ map path_text file.directories.now
     → list_any is_slash text ≡ false → StandsFor olds file text old
-    → list_any (λ (base : Base). may_have_two set (two_hash base.name (Some (hash_of text)))) bases ≡ true
+    → list_any (λ (base : Base). may_end_in set (two_hash base.name (Some (hash_of text)))) bases ≡ true
 StandsFor-alone olds set file bases text old has is_old same none stands =
-    from-directory olds file bases text old (λ name. may_have_two set (two_hash name (Some (hash_of text)))) same none stands
+    from-directory olds file bases text old (λ name. may_end_in set (two_hash name (Some (hash_of text)))) same none stands
     (λ directory leads.
-    ap (λ hash. may_have_two set (two_hash (last_hash directory) hash)) (sym (name_alone-one text))
+    ap (λ hash. may_end_in set (two_hash (last_hash directory) hash)) (sym (name_alone-one text))
     ∙ LeadsToPath-two olds set directory (one_name text ∷ []) old has is_old leads)
 
 -- and in a name after the last name of a directory
 pub StandsFor-above : (olds : List (List ℕ)) (set : OldNames) (file : FileText) (bases : List Base) (text old : List ℕ)
     → Has olds set → Contains olds old → map base_text bases ≡ map path_text file.directories.now
     → list_any is_slash text ≡ false → StandsFor olds file text old
-    → list_any (λ (base : Base). may_have_two set base.name) bases ≡ true
+    → list_any (λ (base : Base). may_end_in set base.name) bases ≡ true
 StandsFor-above olds set file bases text old has is_old same none stands =
-    from-directory olds file bases text old (may_have_two set) same none stands
+    from-directory olds file bases text old (may_end_in set) same none stands
     (λ directory leads. LeadsToPath-above olds set directory text old has is_old leads)
 
 -- what a name alone writes, it stands for
@@ -234,7 +245,7 @@ no-separator (b ∷ bs) none =
 -- where no name alone can be one, what writes an old path has such a byte
 pub separates-written : (olds : List (List ℕ)) (set : OldNames) (file : FileText) (bases : List Base) (bytes old : List ℕ)
     → Has olds set → Contains olds old → map base_text bases ≡ map path_text file.directories.now
-    → list_any (λ (base : Base). may_have_two set base.name) bases ≡ false → IsWritten olds file bytes old
+    → list_any (λ (base : Base). may_end_in set base.name) bases ≡ false → IsWritten olds file bytes old
     → list_any may_separate bytes ≡ true
 separates-written olds set file bases bytes old has is_old same alone written = elim (cases_Bool (list_any may_separate bytes)) [
   | inl some ↦ some

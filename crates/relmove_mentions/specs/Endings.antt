@@ -1,4 +1,4 @@
--- What a text ends in.
+-- What a text ends in: its last word. A word has no slash, and at most its last byte isn't a path byte.
 use Rattle.std.specs.Prelude.{ℕ, Bool, true, false, ◌==◌, ◌||◌, List, IsTrue, not, if◌then◌else◌}
 use Rattle.std.specs.List.{fold, list_any}
 use Rattle.percent_encoding.specs.Percent.{percent_sign}
@@ -14,7 +14,7 @@ use Rattle.relmove_mentions.specs.declared.text_span.TextSpan.{TextSpan}
 abbrev pub no_ending : Ending
 no_ending = record { hash = 0; encoded = false; ended = true }
 
--- the bytes at the end of the last name, with one more. After a byte that doesn't go on a path others begin
+-- a word with one more byte. A byte that doesn't go on a path ends it
 abbrev pub with_byte : Ending → ℕ → Ending
 with_byte ending b =
     record { hash = next_hash ending.hash b; encoded = ending.encoded || b == percent_sign; ended = is_other_byte b }
@@ -24,7 +24,7 @@ abbrev pub next_ending : Ending → ℕ → Ending
 next_ending ending b =
     if is_slash b
     then record { hash = ending.hash; encoded = ending.encoded; ended = true }
-    else with_byte (if ending.ended || is_other_byte b then no_ending else ending) b
+    else with_byte (if ending.ended then no_ending else ending) b
 
 -- what a text ends in
 abbrev pub ending_of : List ℕ → Ending

@@ -1,5 +1,5 @@
 -- The names that an `OldNames` has.
-use Rattle.std.specs.Prelude.{◌≡◌, ◌<◌, ◌≤◌, ℕ, Bool, true, List, map, Option, Some, MatchOption, IsSome, IsTrue, ◌++◌, ◌∷◌, []}
+use Rattle.std.specs.Prelude.{◌≡◌, ◌==◌, ◌<◌, ◌≤◌, if◌then◌else◌, ℕ, Bool, true, List, map, Option, Some, MatchOption, IsSome, IsTrue, ◌++◌, ◌∷◌, []}
 use Rattle.std.specs.BTreeMap.{get_by_text}
 use Rattle.std.specs.List.{Contains, flat_map}
 use Rattle.std.specs.Option.{option_map_or}
@@ -14,6 +14,7 @@ use Rattle.relmove_mentions.specs.Hashes.{may_have}
 use Rattle.relmove_mentions.specs.NameHashes.{hash_of, two_hash}
 use Rattle.relmove_mentions.specs.Names.{names_of, most_others}
 use Rattle.relmove_mentions.specs.Spans.{others_in}
+use Rattle.relmove_mentions.specs.declared.hashes.Hashes.{Hashes}
 use Rattle.relmove_mentions.specs.declared.old_names.OldNames.{OldNames}
 
 -- a path, and one of its names
@@ -37,9 +38,13 @@ pub record HasLastName (set : OldNames) (old n : List ℕ) : Type 0 where
   pub ending : IsTrue (may_have set.endings (ending_of n).hash)
   pub with_others : 0 < others_in old → IsTrue (may_have set.endings_with_others (ending_of n).hash)
 
+-- the endings of the names that can have so many bytes that don't go on a path
+abbrev pub endings_for : OldNames → ℕ → Hashes
+endings_for set others = if others == 0 then set.endings else set.endings_with_others
+
 -- a name of the set may end in two or three names with this hash, or in a name after one with it, if there is a hash
-abbrev pub may_have_two : OldNames → Option ℕ → Bool
-may_have_two set two = option_map_or (may_have set.last_twos) two true
+abbrev pub may_end_in : OldNames → Option ℕ → Bool
+may_end_in set two = option_map_or (may_have set.last_names) two true
 
 -- under the normal text of a name the set has the first path with this name, and under no other text a path; it has
 -- the last name of each, the one before, and its last two and three names
@@ -51,12 +56,12 @@ pub record Lists (names : List PathName) (set : OldNames) : Type 0 where
   pub last : (old : List ℕ) (steps front : List Step) (n : List ℕ) → Contains names (old, steps)
       → IsSame (front ++ name n ∷ []) steps → HasLastName set old n
   pub above : (old : List ℕ) (steps front : List Step) (d n : List ℕ) → Contains names (old, steps)
-      → IsSame (front ++ name d ∷ name n ∷ []) steps → IsTrue (may_have_two set (Some (hash_of d)))
+      → IsSame (front ++ name d ∷ name n ∷ []) steps → IsTrue (may_end_in set (Some (hash_of d)))
   pub last_two : (old : List ℕ) (steps front : List Step) (d n : List ℕ) → Contains names (old, steps)
-      → IsSame (front ++ name d ∷ name n ∷ []) steps → IsTrue (may_have_two set (two_hash (Some (hash_of d)) (Some (hash_of n))))
+      → IsSame (front ++ name d ∷ name n ∷ []) steps → IsTrue (may_end_in set (two_hash (Some (hash_of d)) (Some (hash_of n))))
   pub last_three : (old : List ℕ) (steps front : List Step) (d m n : List ℕ) → Contains names (old, steps)
       → IsSame (front ++ name d ∷ name m ∷ name n ∷ []) steps
-      → IsTrue (may_have_two set (two_hash (Some (hash_of d)) (two_hash (Some (hash_of m)) (Some (hash_of n)))))
+      → IsTrue (may_end_in set (two_hash (Some (hash_of d)) (two_hash (Some (hash_of m)) (Some (hash_of n)))))
 
 -- the set has these old paths
 pub record Has (olds : List (List ℕ)) (set : OldNames) : Type 0 where

@@ -19,14 +19,14 @@ pub(crate) struct EndingAt {
     pub(crate) end: usize,
 }
 
-// What a text ends in, apart from slashes: the path bytes at the end of its last name, or one byte that isn't a path byte.
+// What a text ends in, apart from slashes: its last word, which is path bytes and then at most one other byte.
 #[derive(Clone, Copy)]
 pub(crate) struct Ending {
-    // The hash of these bytes.
+    // The hash of its bytes.
     pub(crate) hash: u64,
-    // Whether they have a percent sign.
+    // Whether it has a percent sign.
     pub(crate) encoded: bool,
-    // Whether the next byte, if it is no slash, begins others.
+    // Whether the next byte, if it is no slash, begins another.
     pub(crate) ended: bool,
 }
 
@@ -63,11 +63,10 @@ impl Ending {
         requires { is_slash byte ≡ false }
         ensures { result ≡ next_ending self byte }
     {
-        let begins = self.ended || !is_path_byte(byte);
-        let bytes = if begins { Ending::none() } else { self };
+        let word = if self.ended { Ending::none() } else { self };
         Ending {
-            hash: hash_with(bytes.hash, byte),
-            encoded: bytes.encoded || byte == b'%',
+            hash: hash_with(word.hash, byte),
+            encoded: word.encoded || byte == b'%',
             ended: !is_path_byte(byte),
         }
     }
@@ -82,7 +81,7 @@ impl Ending {
 }
 
 // Returns what a text ends in after one that ends so, with its bytes from an offset on: with the first of them, and with more
-// of them as long as it is clear that a path goes on. The first can also end a path before they begin another.
+// of them as long as it is clear that a path goes on. The first can also end a word before they begin another.
 #[inline]
 pub(crate) fn with_word(before: Ending, text: &[u8], start: usize) -> EndingAt
     requires { start < length text.now }
@@ -98,7 +97,7 @@ pub(crate) fn with_word(before: Ending, text: &[u8], start: usize) -> EndingAt
     with_plain_bytes(ending, text, start + 1)
 }
 
-// Returns the same with the plain bytes from an offset on, if the next byte begins others.
+// Returns the same with the plain bytes from an offset on, if the next byte begins another word.
 #[inline]
 fn with_next_word(before: Ending, text: &[u8], start: usize) -> EndingAt
     requires within { start ≤ length text.now }
@@ -116,7 +115,7 @@ fn with_next_word(before: Ending, text: &[u8], start: usize) -> EndingAt
     with_plain_bytes(before.then(text[start]), text, start + 1)
 }
 
-// Returns the same with the plain bytes from an offset on, if the next byte doesn't begin others.
+// Returns the same with the plain bytes from an offset on, if the next byte goes on the word.
 #[inline]
 fn with_plain_bytes(before: Ending, text: &[u8], start: usize) -> EndingAt
     requires within { start ≤ length text.now }

@@ -10,7 +10,7 @@ ghost use Rattle.relmove_mentions.specs.Bases.{base_components};
 ghost use Rattle.relmove_mentions.specs.Endings.{IsCandidate, ending_of, may_end};
 ghost use Rattle.relmove_mentions.specs.Mentions.{AreMentionsBefore, HaveAtMost, HaveOthersFrom, IsMention, spans_of};
 ghost use Rattle.relmove_mentions.specs.NameHashes.{hash_of, short_hash, two_hash};
-ghost use Rattle.relmove_mentions.specs.OldNames.{Finds, Has, WithOthers, may_have_two};
+ghost use Rattle.relmove_mentions.specs.OldNames.{Finds, Has, WithOthers, endings_for, may_end_in};
 ghost use Rattle.relmove_mentions.specs.Spans.{
   ArePassed,
   ComesBefore,
@@ -150,16 +150,16 @@ impl<'p> OldNames<'p> {
     // Returns whether a name alone may be mentioned in a file with these directories: whether a name of an old path may be right
     // below one that ends in the last name of one of them.
     fn may_have_alone(&self, directories: &[Base<'_>]) -> bool
-        ensures { result ≡ list_any (λ (base : Base). may_have_two self.now base.name) directories.now }
+        ensures { result ≡ list_any (λ (base : Base). may_end_in self.now base.name) directories.now }
     {
-        directories.iter().any(|base| self.may_have_two(base.name))
+        directories.iter().any(|base| self.may_end_in(base.name))
     }
 
     // Returns an offset after another, before which no mention ends that begins at the other or later. `None` if there are no such
     // mentions. Where no name alone is mentioned, each has a slash, or is encoded.
     fn next_end_in(&self, searched: SearchedFile<'_>, alone: bool, start: usize) -> Option<usize>
         requires within { start ≤ length searched.file.text.now }
-        requires alone { alone ≡ list_any (λ (base : Base). may_have_two self.now base.name) searched.directories.now }
+        requires alone { alone ≡ list_any (λ (base : Base). may_end_in self.now base.name) searched.directories.now }
         ensures none { IfNone result ((olds : List (List ℕ)) (span : TextSpan) (old : List ℕ) → Has olds self.now
             → IsMention olds searched.entry.file span old → span.start < start) }
         ensures after { IfSome result (λ end. start < end) }
@@ -362,7 +362,7 @@ impl<'p> OldNames<'p> {
         ensures { IfOk result (λ found. (olds : List (List ℕ)) → Has olds self.now
             → Finds olds (IsMention olds searched.entry.file span) found) }
     {
-        if !can_end(&self.endings, ending, searched.file.text, span.end) {
+        if !self.may_end_at(searched.file.text, span.end, others, ending) {
             return Ok(None);
         }
         let bytes = &searched.file.text[span.start..span.end];
@@ -375,6 +375,19 @@ impl<'p> OldNames<'p> {
         self.find(alloc, searched, others, bytes)
     }
 
+    // Returns whether a name of an old path can end at an offset, before which a text ends so, if it has so many bytes that
+    // aren't path bytes.
+    #[inline]
+    fn may_end_at(&self, text: &[u8], end: usize, others: usize, ending: Ending) -> bool
+        ensures { result ≡ (is_bounded_after text.now end && may_end (endings_for self.now others) ending) }
+    {
+        if others == 0 {
+            can_end(&self.endings, ending, text, end)
+        } else {
+            can_end(&self.endings_with_others, ending, text, end)
+        }
+    }
+
     // Returns whether bytes that end so may write an old path in a file with these directories. So many of them aren't path
     // bytes. If they are a name alone, it is known what they end in, and most words of a text end here.
     fn may_write(
@@ -385,7 +398,7 @@ impl<'p> OldNames<'p> {
         ending: Ending,
     ) -> bool
         ensures { result ≡ (nat_lt 0 others || (ending.encoded || (list_any is_slash bytes.now
-            || list_any (λ (base : Base). may_have_two self.now (two_hash base.name (Some ending.hash))) directories.now))) }
+            || list_any (λ (base : Base). may_end_in self.now (two_hash base.name (Some ending.hash))) directories.now))) }
     {
         0 < others
             || ending.encoded
@@ -439,10 +452,10 @@ impl<'p> OldNames<'p> {
         if !self.may_have_last(last) {
             return Ok(None);
         }
-        if !self.may_have_two(last_two_hash(path)) {
+        if !self.may_end_in(last_two_hash(path)) {
             return Ok(None);
         }
-        if !self.may_have_two(last_three_hash(path)) {
+        if !self.may_end_in(last_three_hash(path)) {
             return Ok(None);
         }
         if let Some(old) = self.find_from_directory(alloc, searched, others, path)? {
@@ -455,18 +468,18 @@ impl<'p> OldNames<'p> {
     // path ends in the last name of one of them and then in this name alone.
     fn may_stand(&self, directories: &[Base<'_>], text: &[u8]) -> bool
         ensures { result ≡ (list_any is_slash text.now
-            || list_any (λ (base : Base). may_have_two self.now (two_hash base.name (Some (hash_of text.now)))) directories.now) }
+            || list_any (λ (base : Base). may_end_in self.now (two_hash base.name (Some (hash_of text.now)))) directories.now) }
     {
         has_slash(text) || self.may_have_below(directories, Some(hash_of(text)))
     }
 
     // Returns whether a name of an old path may end in the last name of one of these bases, and then in a name with this hash.
     fn may_have_below(&self, bases: &[Base<'_>], name: Option<u64>) -> bool
-        ensures { result ≡ list_any (λ (base : Base). may_have_two self.now (two_hash base.name name)) bases.now }
+        ensures { result ≡ list_any (λ (base : Base). may_end_in self.now (two_hash base.name name)) bases.now }
     {
         bases
             .iter()
-            .any(|base| self.may_have_two(two_hash(base.name, name)))
+            .any(|base| self.may_end_in(two_hash(base.name, name)))
     }
 
     // Returns an old path with at least so many bytes that aren't path bytes to which a path leads from a directory of a file.
@@ -539,7 +552,7 @@ impl<'p> OldNames<'p> {
             → Finds olds (WithOthers others
             (LeadsToPath olds (base_components base.entry ++ path_components path.entry))) found) }
     {
-        if !self.may_have_two(two_hash(base.name, short)) {
+        if !self.may_end_in(two_hash(base.name, short)) {
             return Ok(None);
         }
         self.find_joined(alloc, base.path, others, path)

@@ -20,7 +20,7 @@ ghost use Rattle.relmove_mentions.specs.Names.{
   names_of,
   page_names,
 };
-ghost use Rattle.relmove_mentions.specs.OldNames.{Has, Lists, may_have_two, with_names};
+ghost use Rattle.relmove_mentions.specs.OldNames.{Has, Lists, may_end_in, with_names};
 ghost use Rattle.relmove_mentions.specs.Spans.{others_in};
 
 use crate::endings::ending_of;
@@ -51,7 +51,7 @@ pub struct OldNames<'p> {
     // Those of the paths that have a byte that isn't a path byte.
     pub(crate) endings_with_others: Hashes,
     // Those of the last two names, of the last three, and of the name before the last.
-    last_twos: Hashes,
+    last_names: Hashes,
     most_others: usize,
 }
 
@@ -97,7 +97,7 @@ impl<'p> OldNames<'p> {
             by_text: BTreeMap::new(alloc),
             endings: Hashes::new(alloc, count)?,
             endings_with_others: Hashes::new(alloc, with_others)?,
-            last_twos: Hashes::new(alloc, count)?,
+            last_names: Hashes::new(alloc, count)?,
             most_others,
         })
     }
@@ -202,15 +202,15 @@ impl<'p> OldNames<'p> {
             old,
         );
         insert_hash(
-            &mut self.last_twos,
+            &mut self.last_names,
             last_hash(directory(normal.as_relative_path())),
         );
         insert_hash(
-            &mut self.last_twos,
+            &mut self.last_names,
             last_two_hash(normal.as_relative_path()),
         );
         insert_hash(
-            &mut self.last_twos,
+            &mut self.last_names,
             last_three_hash(normal.as_relative_path()),
         );
         let text = normal.into_string();
@@ -235,11 +235,11 @@ impl<'p> OldNames<'p> {
     // Returns whether a name of an old path may end in two or three names with this hash, or in a name after one with it. If there
     // is no hash, it may.
     #[inline]
-    pub(crate) fn may_have_two(&self, two: Option<u64>) -> bool
-        ensures { result ≡ may_have_two self.now two }
+    pub(crate) fn may_end_in(&self, two: Option<u64>) -> bool
+        ensures { result ≡ may_end_in self.now two }
     {
         match two {
-            Some(hash) => self.last_twos.may_have(hash),
+            Some(hash) => self.last_names.may_have(hash),
             None => true,
         }
     }

@@ -10,22 +10,24 @@ use Rattle.relmove_mentions.specs.Endings.{may_end}
 use Rattle.percent_encoding.specs.Percent.{percent_sign}
 use Rattle.relative_path.specs.Steps.{is_slash}
 use Rattle.relmove_mentions.specs.NameHashes.{hash_of, two_hash}
-use Rattle.relmove_mentions.specs.OldNames.{WithOthers, may_have_two}
+use Rattle.relmove_mentions.specs.OldNames.{WithOthers, endings_for, may_end_in}
 use Rattle.relmove_mentions.specs.declared.bases.Base.{Base}
 use Rattle.relmove_mentions.specs.declared.endings.Ending.{Ending}
 use Rattle.relmove_mentions.proofs.EndingsLemmas.{ending_of-alone}
 use Rattle.relmove_mentions.specs.Written.{IsWritten}
 use Rattle.relmove_mentions.proofs.OldNamesLemmas.{Finds-map}
-use Rattle.relmove_mentions.proofs.WrittenLemmas.{StandsFor-alone, StandsFor-written, may_end-written}
+use Rattle.relmove_mentions.proofs.WrittenLemmas.{StandsFor-alone, StandsFor-written, may_end-for}
 use Rattle.relmove_mentions.proofs.old_names.OldNames.find_at.Goals as goal
 
-pub returns-then-not-can_end : goal.returns-then-not-can_end
-returns-then-not-can_end c = λ olds has old is_old is.
+pub returns-then-not-may_end_at : goal.returns-then-not-may_end_at
+returns-then-not-may_end_at c = λ olds has old is_old is.
+    let set = c.args.self.now in
     let bytes = span_bytes c.args.searched.file.text.now c.args.span in
-    let end = may_end-written olds c.args.self.now c.args.searched.file bytes old has is_old is.written in
+    let few = subst (λ n. n ≤ others_in old) (sym c.requires.others) is.few in
+    let end = may_end-for olds set c.args.searched.file bytes old c.args.others has is_old few is.written in
     true≢false
-    (sym (and_from _ _ is.bounded.after (ap (may_end c.args.self.now.endings) c.requires.ending ∙ end))
-    ∙ sym c.can_end.ensures ∙ c.if-not-can_end.true)
+    (sym (and_from _ _ is.bounded.after (ap (may_end (endings_for set c.args.others)) c.requires.ending ∙ end))
+    ∙ sym c.may_end_at.ensures ∙ c.if-not-may_end_at.true)
 
 pub returns-then-not-may_write : goal.returns-then-not-may_write
 returns-then-not-may_write c = λ olds has old is_old is.
@@ -34,7 +36,7 @@ returns-then-not-may_write c = λ olds has old is_old is.
     let bases = c.args.searched.directories.now in
     let ending = c.args.ending in
     let bytes = span_bytes file.text.now c.args.span in
-    let below = list_any (λ (base : Base). may_have_two set (two_hash base.name (Some ending.hash))) bases in
+    let below = list_any (λ (base : Base). may_end_in set (two_hash base.name (Some ending.hash))) bases in
     let (some, rest) = or_parts (nat_lt 0 c.args.others) (ending.encoded || (list_any is_slash bytes || below))
     (sym c.may_write.ensures ∙ c.if-not-may_write.true) in
     let (encoded, more) = or_parts ending.encoded (list_any is_slash bytes || below) rest in
@@ -47,7 +49,7 @@ returns-then-not-may_write c = λ olds has old is_old is.
     true≢false
     (sym (StandsFor-alone olds set file bases bytes old has is_old c.args.searched.directories_same no_slash
     (StandsFor-written olds file bytes old plain is.written))
-    ∙ ap (λ h. list_any (λ (base : Base). may_have_two set (two_hash base.name (Some h))) bases) (sym same) ∙ none)
+    ∙ ap (λ h. list_any (λ (base : Base). may_end_in set (two_hash base.name (Some h))) bases) (sym same) ∙ none)
 
 pub returns-then-not-is_unread : goal.returns-then-not-is_unread
 returns-then-not-is_unread c = λ olds has old is_old is.
@@ -68,7 +70,7 @@ returns c =
         order = c.requires.order;
         within = c.requires.within;
         before = c.requires.before;
-        after = (and_parts _ _ (sym c.can_end.ensures ∙ c.if-not-can_end.false)).0;
+        after = (and_parts _ _ (sym c.may_end_at.ensures ∙ c.if-not-may_end_at.false)).0;
       };
       few = subst (λ n. n ≤ others_in old) c.requires.others some;
       unread =

@@ -8,7 +8,7 @@ use Rattle.relative_path.specs.Naming.{file_name_of}
 use Rattle.relative_path.specs.RelativePath.{path_text}
 use Rattle.relative_path.specs.Steps.{components, is_slash}
 use Rattle.relmove_mentions.specs.NameHashes.{hash_of, last_three_hash, last_two_hash, two_hash}
-use Rattle.relmove_mentions.specs.OldNames.{Finds, WithOthers, may_have_two}
+use Rattle.relmove_mentions.specs.OldNames.{Finds, WithOthers, may_end_in}
 use Rattle.relmove_mentions.specs.Written.{LeadsFromDirectory, LeadsFromTop}
 use Rattle.relmove_mentions.proofs.OldNamesLemmas.{Finds-second, StandsFor-last, StandsFor-last_three, StandsFor-last_two}
 use Rattle.relmove_mentions.specs.declared.bases.Base.{Base}
@@ -19,7 +19,7 @@ pub returns-then-not-may_stand : goal.returns-then-not-may_stand
 returns-then-not-may_stand c = λ olds has old is_old (some, stands).
     let text = c.args.text.now in
     let (none, no_base) = or_parts (list_any is_slash text)
-    (list_any (λ (base : Base). may_have_two c.args.self.now (two_hash base.name (Some (hash_of text)))) c.args.searched.directories.now)
+    (list_any (λ (base : Base). may_end_in c.args.self.now (two_hash base.name (Some (hash_of text)))) c.args.searched.directories.now)
     (sym c.may_stand.ensures ∙ c.if-not-may_stand.true) in
     true≢false
     (sym (StandsFor-alone olds c.args.self.now c.args.searched.file c.args.searched.directories.now text old has is_old
@@ -33,22 +33,22 @@ returns-then-not-may_have_last c = λ olds has old is_old (some, stands).
     (rw is_text at (sym c.in-Some.ensures.text)) stands in
     true≢false (sym last.ending ∙ sym c.may_have_last.ensures ∙ c.if-not-may_have_last.true)
 
-pub returns-then-not-may_have_two : goal.returns-then-not-may_have_two
-returns-then-not-may_have_two c = λ olds has old is_old (some, stands).
+pub returns-then-not-may_end_in : goal.returns-then-not-may_end_in
+returns-then-not-may_end_in c = λ olds has old is_old (some, stands).
     let is_text : path_text c.new-path.result ≡ c.args.text.now = c.new-path.ensures ∙ c.in-Ok.ensures.cases.0 in
     let two = StandsFor-last_two olds c.args.self.now c.args.searched.file c.args.text.now old has is_old stands in
     true≢false
-    (sym two ∙ sym (ap (may_have_two c.args.self.now) (c.last_two_hash.ensures ∙ ap (λ t. last_two_hash (components t)) is_text))
-    ∙ sym c.may_have_two.ensures ∙ c.if-not-may_have_two.true)
+    (sym two ∙ sym (ap (may_end_in c.args.self.now) (c.last_two_hash.ensures ∙ ap (λ t. last_two_hash (components t)) is_text))
+    ∙ sym c.may_end_in.ensures ∙ c.if-not-may_end_in.true)
 
-pub returns-then-not-may_have_two-2 : goal.returns-then-not-may_have_two-2
-returns-then-not-may_have_two-2 c = λ olds has old is_old (some, stands).
+pub returns-then-not-may_end_in-2 : goal.returns-then-not-may_end_in-2
+returns-then-not-may_end_in-2 c = λ olds has old is_old (some, stands).
     let is_text : path_text c.new-path.result ≡ c.args.text.now = c.new-path.ensures ∙ c.in-Ok.ensures.cases.0 in
     let three = StandsFor-last_three olds c.args.self.now c.args.searched.file c.args.text.now old has is_old stands in
     true≢false
     (sym three
-    ∙ sym (ap (may_have_two c.args.self.now) (c.last_three_hash.ensures ∙ ap (λ t. last_three_hash (components t)) is_text))
-    ∙ sym c.may_have_two-2.ensures ∙ c.if-not-may_have_two-2.true)
+    ∙ sym (ap (may_end_in c.args.self.now) (c.last_three_hash.ensures ∙ ap (λ t. last_three_hash (components t)) is_text))
+    ∙ sym c.may_end_in-2.ensures ∙ c.if-not-may_end_in-2.true)
 
 pub returns : goal.returns
 returns c =

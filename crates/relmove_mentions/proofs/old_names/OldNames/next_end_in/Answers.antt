@@ -5,7 +5,7 @@ use Rattle.std.specs.List.{list_any}
 use Rattle.std.proofs.lemmas.Bool.{cases_lt}
 use Rattle.std.proofs.lemmas.Option.{IfSome_then}
 use Rattle.relmove_mentions.specs.Mentions.{IsMention}
-use Rattle.relmove_mentions.specs.OldNames.{Has, may_have_two}
+use Rattle.relmove_mentions.specs.OldNames.{Has, may_end_in}
 use Rattle.relmove_mentions.specs.Spans.{may_separate, span_bytes}
 use Rattle.relmove_mentions.specs.declared.bases.Base.{Base}
 use Rattle.relmove_mentions.specs.declared.old_names.OldNames.{OldNames}
@@ -22,7 +22,7 @@ IfNone_then (Some x) p then = tt
 
 -- a mention in a file without a name alone isn't where no byte may separate names
 no-mention : (olds : List (List ℕ)) (set : OldNames) (searched : SearchedFile) (span : TextSpan) (old : List ℕ) → Has olds set
-    → list_any (λ (base : Base). may_have_two set base.name) searched.directories.now ≡ false
+    → list_any (λ (base : Base). may_end_in set base.name) searched.directories.now ≡ false
     → IsMention olds searched.file span old
     → ((at : ℕ) → span.start ≤ at → at < span.end → may_separate (get_or searched.file.text.now at 0) ≡ false) → ⊥
 no-mention olds set searched span old has alone is none =
