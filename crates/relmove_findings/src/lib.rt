@@ -2,7 +2,7 @@
 //! refused. Here are no calls, so `relmove_report`, which prints the values, is proved beside `relmove_moving`.
 #![tactic(auto)]
 
-pub use self::moving::{LeftLink, Loss, LostSymlink, Moving, WhyLeft};
+pub use self::moving::{LeftLink, Loss, LostSymlink, Moving, PlannedMoves, WhyLeft};
 pub use self::refused::WhyRefused;
 
 mod moving;

@@ -1,7 +1,8 @@
 //! What moves do to a tree.
 use relative_path_links::Unchanged;
-use relmove_folder::{Position, ShownMove};
-use relmove_plan::Plan;
+use relative_path_moves::TreeMoves;
+use relmove_folder::{PlannedPage, Position, ShownMove};
+use relmove_plan::{Plan, SymlinkNotice};
 
 /// Where a path leads after moves that led to something else before them.
 #[derive(Clone, Copy, Debug, PartialEq, Eq)]
@@ -57,6 +58,23 @@ pub struct Moving<'a, 'm> {
     /// The links that no longer lead to their file, or may not.
     pub left: Vec<LeftLink<'a>>,
     /// The symbolic links that no longer lead to what they led to, and aren't among those of the plan.
+    pub lost: Vec<LostSymlink<'a>>,
+    /// The moves of the names under which the site shows pages. Links to these names move along.
+    pub shown: Vec<ShownMove>,
+}
+
+/// What moves do to a tree, apart from the actions of their run.
+#[derive(Drop)]
+pub struct PlannedMoves<'a, 'm> {
+    /// The table of the moves.
+    pub moves: TreeMoves<'m>,
+    /// Each page after the moves, in the order of the tree's pages.
+    pub pages: Vec<PlannedPage>,
+    /// The symbolic links that move, or that lead to what moves.
+    pub symlinks: Vec<SymlinkNotice>,
+    /// The links that no longer lead to their file, or may not.
+    pub left: Vec<LeftLink<'a>>,
+    /// The symbolic links that no longer lead to what they led to, and aren't in `symlinks`.
     pub lost: Vec<LostSymlink<'a>>,
     /// The moves of the names under which the site shows pages. Links to these names move along.
     pub shown: Vec<ShownMove>,

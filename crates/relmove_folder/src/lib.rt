@@ -11,20 +11,22 @@
 //! what moves, and whence  bases  words
 //! what a site serves      served
 //! the addresses of pages  addresses
+//! pages by name alone     names_alone
 //! a tree that moves       moving_tree
 //! what is at a path       presence  seen  site_root
 //! what a check finds      checked  pages_as
 //! what is below the root  tree
-//! what all share          position  extensions  slugs
+//! what all share          position  extensions  slugs  planned_page
 //! ```
 #![tactic(auto)]
 
 pub use self::checked::{Checked, DeadLink, WhyDead};
 pub use self::dead_links::{LinkOptions, check_links, dead_links_of, leads_somewhere};
-pub use self::mentions::{SearchOptions, mentions_of};
+pub use self::mentions::{SearchOptions, SiteTargets, mentions_of, targets_of};
 pub use self::moving_tree::shown_path;
 pub use self::pages_as::{PagesAs, ShownMove};
 pub use self::places::{MOST_PLACES, MentionPlace, MentionPlaces};
+pub use self::planned_page::PlannedPage;
 pub use self::position::{Position, Positions, position_after};
 pub use self::presence::{Presence, presence_at};
 pub use self::seen::{Seen, find, known_answer, seen_by_system};
@@ -45,8 +47,10 @@ mod fragments;
 mod mentions;
 mod moved_names;
 mod moving_tree;
+mod names_alone;
 mod pages_as;
 mod places;
+mod planned_page;
 mod position;
 mod presence;
 mod search;

@@ -4,8 +4,10 @@ use crate::bases::Tops;
 use crate::extensions::is_searched_file;
 use crate::moved_names::{KnownNames, Names, SearchedPaths, relative_paths};
 use crate::moving_tree::{MovingTree, numbers_of};
+use crate::names_alone::PageNames;
 use crate::pages_as::{PagesAs, ShownMove};
 use crate::places::MentionPlaces;
+use crate::planned_page::PlannedPage;
 use crate::search::Search;
 use crate::seen::find;
 use crate::served::Served;
@@ -14,12 +16,10 @@ use crate::tree::{
     EntryKind, LONGEST_PAGE, TOO_LONG, Tree, is_at_or_below, is_left_out, normal_paths,
 };
 use relative_path::RelativePath;
-use relative_path_links::{Edit, MovedSitePage};
 use relative_path_moves::TreeMoves;
 use relmove_store::{RunFault, Store, SystemCall, at};
 use std::alloc::{AllocError, Global};
-use std::collections::BTreeSet;
-use std::mem;
+use std::collections::{BTreeMap, BTreeSet};
 
 /// Which files are searched, and how they are named.
 #[derive(Clone, Copy)]
@@ -36,21 +36,28 @@ pub struct SearchOptions<'a> {
     pub pages_as: Option<PagesAs>,
 }
 
-/// Finds where the old paths of moves are written: in pages outside the targets that are read, and in other files with
-/// certain extensions. `pages` has the edits of the tree's pages, in their order. What leads to the new path after the
-/// moves, with the file name that it had, isn't among them. Files that aren't UTF-8 are passed over.
+/// What the search for old paths has to know of the targets of a tree's pages.
+#[derive(Drop)]
+pub struct SiteTargets {
+    // The number of each move, by its old path.
+    numbers: BTreeMap<String, usize>,
+    // The directories from which a path can lead in any file.
+    tops: Tops,
+    // The targets of each page.
+    pages: Vec<PageTargets>,
+}
+
+/// Returns what the search for old paths has to know of the targets of a tree's pages. `pages` has what becomes of them, in the
+/// tree's order.
 ///
-/// Of the edits only those stay that have a new text: the others are most of the memory of a plan, and what the search has to
-/// know of them is known before it begins. Reads the files that aren't pages, and has one of them in memory at a time.
-/// Allocates what it knows of the targets, the names of the old paths and of the new ones, and the places.
-pub fn mentions_of<S: Store>(
-    store: &mut S,
+/// Allocates the spans of the targets, the paths and new texts of a few of them, and the numbers of the moves.
+pub fn targets_of(
+    alloc: Global,
     tree: &Tree,
     moves: &TreeMoves<'_>,
-    pages: &mut [MovedSitePage],
+    pages: &[PlannedPage],
     options: SearchOptions<'_>,
-) -> Result<MentionPlaces, RunFault> {
-    let alloc = store.alloc();
+) -> Result<SiteTargets, AllocError> {
     let numbers = numbers_of(alloc, moves.moves())?;
     let tops = Tops::of(alloc, moves, options.site_root)?;
     let moving = MovingTree {
@@ -61,58 +68,70 @@ pub fn mentions_of<S: Store>(
         shown: options.shown,
         pages_as: options.pages_as,
     };
-    let targets = targets_of(alloc, moving, &tops, pages)?;
-    search_all(store, moving, &tops, &targets, options.excluded)
+    let pages = page_targets(alloc, moving, &tops, pages)?;
+    Ok(SiteTargets {
+        numbers,
+        tops,
+        pages,
+    })
 }
 
-// The targets of pages that their search has to know. The edits without a new text are gone then.
-fn targets_of(
+// The targets of pages that their search has to know.
+fn page_targets(
     alloc: Global,
     moving: MovingTree<'_, '_>,
     tops: &Tops,
-    news: &mut [MovedSitePage],
+    news: &[PlannedPage],
 ) -> Result<Vec<PageTargets>, AllocError> {
     let tops = relative_paths(alloc, &tops.before)?;
     let mut targets = Vec::with_capacity(alloc, news.len())?;
-    let mut number = 0usize;
-    for new in news.iter_mut() {
-        if let Some(page) = moving.tree.pages.get(number) {
-            let moved = MovedPage {
-                page,
-                new: &new.path,
-            };
-            targets.push(PageTargets::of(alloc, moving, &tops, moved, &new.edits)?)?;
-        }
-        let edits = mem::replace(&mut new.edits, Vec::new(alloc));
-        new.edits = changed_edits(alloc, edits)?;
-        number = number.saturating_add(1);
+    for (page, new) in moving.tree.pages.iter().zip(news) {
+        let moved = MovedPage {
+            page,
+            new: &new.path,
+        };
+        targets.push(PageTargets::of(alloc, moving, &tops, moved, &new.edits)?)?;
     }
     Ok(targets)
 }
 
-// Those of some edits that have a new text.
-fn changed_edits(alloc: Global, edits: Vec<Edit>) -> Result<Vec<Edit>, AllocError> {
-    let mut changed = Vec::new(alloc);
-    for edit in edits {
-        if edit.is_new() {
-            changed.push(edit)?;
-        }
-    }
-    Ok(changed)
+/// Finds where the old paths of moves are written: in pages outside the targets that are read, and in other files with
+/// certain extensions. [`targets_of`] returns the targets. What leads to the new path after the moves, with the file name that it
+/// had, isn't among the places. Files that aren't UTF-8 are passed over.
+///
+/// Reads the files that aren't pages, and has one of them in memory at a time. Allocates the names of the old paths and of
+/// the new ones, and the places.
+pub fn mentions_of<S: Store>(
+    store: &mut S,
+    tree: &Tree,
+    moves: &TreeMoves<'_>,
+    targets: &SiteTargets,
+    options: SearchOptions<'_>,
+) -> Result<MentionPlaces, RunFault> {
+    let moving = MovingTree {
+        tree,
+        moves,
+        made: options.made,
+        numbers: &targets.numbers,
+        shown: options.shown,
+        pages_as: options.pages_as,
+    };
+    search_all(store, moving, targets, options.excluded)
 }
 
 // Finds where old paths are written.
 fn search_all<S: Store>(
     store: &mut S,
     moving: MovingTree<'_, '_>,
-    tops: &Tops,
-    targets: &[PageTargets],
+    targets: &SiteTargets,
     excluded: &[&str],
 ) -> Result<MentionPlaces, RunFault> {
     let alloc = store.alloc();
+    let tops = &targets.tops;
     let paths = SearchedPaths::of(alloc, moving)?;
     let moved = Names::of(alloc, &paths.moved)?;
     let all = KnownNames::of(alloc, &paths.all)?;
+    let renamed = PageNames::of(alloc, moving)?;
     let before = relative_paths(alloc, &tops.before)?;
     let after = relative_paths(alloc, &tops.after)?;
     let served = Served::of(alloc, moving.tree, moving.moves, &tops.before)?;
@@ -120,11 +139,12 @@ fn search_all<S: Store>(
         moving,
         moved: &moved,
         all: &all,
+        renamed: &renamed,
         tops: &before,
         tops_after: &after,
         served: &served,
     };
-    search.all_places(store, targets, excluded)
+    search.all_places(store, &targets.pages, excluded)
 }
 
 impl Search<'_, '_, '_> {

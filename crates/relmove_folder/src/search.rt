@@ -3,6 +3,7 @@ use crate::bases::{Addresses, Base, bases_of, directories_of};
 use crate::extensions::is_data;
 use crate::moved_names::{KnownNames, Names};
 use crate::moving_tree::MovingTree;
+use crate::names_alone::{PageNames, names_alone};
 use crate::places::{MentionPlace, MentionPlaces};
 use crate::position::Positions;
 use crate::served::Served;
@@ -22,6 +23,8 @@ pub struct Search<'a, 'm, 'p> {
     pub moved: &'a Names<'p>,
     /// Those of all entries before the moves, for files that move.
     pub all: &'a KnownNames<'p>,
+    /// The pages that get another name.
+    pub renamed: &'a PageNames,
     /// The tops before the moves.
     pub tops: &'a [RelativePath<'a>],
     /// The same directories after the moves.
@@ -50,6 +53,7 @@ impl<'p> Search<'_, '_, 'p> {
         let mut places = Vec::new(alloc);
         self.add_lost(alloc, targets, &mut places)?;
         self.add_mentions(alloc, file, targets, &mut places)?;
+        self.add_names_alone(alloc, text, &mut places)?;
         places.sort_by_key(|place| place.start)?;
         self.add_places(alloc, file, &places, found)
     }
@@ -89,6 +93,28 @@ impl<'p> Search<'_, '_, 'p> {
         let mentions = mentions_in(alloc, names, &directories, self.tops, file.text, read)?;
         for mention in &mentions {
             self.add_mention(alloc, file, &bases, targets, *mention, places)?;
+        }
+        Ok(())
+    }
+
+    // Adds the pages that get another name, where a text has the one that they had alone.
+    fn add_names_alone(
+        &self,
+        alloc: Global,
+        text: &str,
+        places: &mut Vec<OldPathAt>,
+    ) -> Result<(), AllocError> {
+        if self.renamed.is_empty() {
+            return Ok(());
+        }
+        for found in &names_alone(alloc, text)? {
+            if let Some(page) = self.renamed.page(alloc, found.name)? {
+                places.push(OldPathAt {
+                    start: found.start,
+                    old: String::from_str(alloc, page)?,
+                    number: None,
+                })?;
+            }
         }
         Ok(())
     }

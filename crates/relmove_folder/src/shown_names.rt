@@ -54,21 +54,59 @@ fn names_that_stay(
     form: PagesAs,
 ) -> Result<BTreeSet<String>, AllocError> {
     let mut names = BTreeSet::new(alloc);
+    insert_own_addresses(alloc, tree, moves, form, &mut names)?;
+    insert_other_addresses(alloc, tree, moves, form, &mut names)?;
+    Ok(names)
+}
+
+// Inserts the names of pages that move, and say themselves under which address they are shown.
+fn insert_own_addresses(
+    alloc: Global,
+    tree: &Tree,
+    moves: &TreeMoves<'_>,
+    form: PagesAs,
+    names: &mut BTreeSet<String>,
+) -> Result<(), AllocError> {
     for page in &tree.pages {
         let old = RelativePath::new(page.path.as_str());
         let new = moves.path_after(alloc, old)?;
-        let new = new.as_relative_path();
-        if new == old {
-            continue;
-        }
-        if !has_address(page.text.as_str()) && !gets_other_address(alloc, old, new, Some(form))? {
-            continue;
-        }
-        if let Some(name) = name_before(alloc, tree, old, form)? {
-            names.insert(name.into_string())?;
+        if new.as_relative_path() != old && has_address(page.text.as_str()) {
+            insert_name(alloc, tree, old, form, names)?;
         }
     }
-    Ok(names)
+    Ok(())
+}
+
+// Inserts the names of pages whose new path may be another in an address, those that aren't read too.
+fn insert_other_addresses(
+    alloc: Global,
+    tree: &Tree,
+    moves: &TreeMoves<'_>,
+    form: PagesAs,
+    names: &mut BTreeSet<String>,
+) -> Result<(), AllocError> {
+    for path in tree.entries.keys() {
+        let old = RelativePath::new(path.as_str());
+        let new = moves.path_after(alloc, old)?;
+        if gets_other_address(alloc, old, new.as_relative_path(), Some(form))? {
+            insert_name(alloc, tree, old, form, names)?;
+        }
+    }
+    Ok(())
+}
+
+// Inserts the name under which a site shows the page at a path, if there is one.
+fn insert_name(
+    alloc: Global,
+    tree: &Tree,
+    page: RelativePath<'_>,
+    form: PagesAs,
+    names: &mut BTreeSet<String>,
+) -> Result<(), AllocError> {
+    if let Some(name) = name_before(alloc, tree, page, form)? {
+        names.insert(name.into_string())?;
+    }
+    Ok(())
 }
 
 /// Whether a site may show a page or a directory at another address than its new path, as Hugo shows `My Page.md` as `my-page/`. A

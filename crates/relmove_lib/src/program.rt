@@ -1,14 +1,14 @@
 //! A whole call of the program: its arguments, what it does, what it prints, its status.
-use relative_path_links::{MovedSitePage, SiteRoot};
+use relative_path_links::SiteRoot;
 use relmove_actions::Actions;
 use relmove_arguments::{Effect, Task, moves_of_list, task_of};
-use relmove_findings::{Moving, WhyRefused};
+use relmove_findings::{Moving, PlannedMoves, WhyRefused};
 use relmove_folder::{
-    Checked, LinkOptions, MentionPlaces, Page, PagesAs, SearchOptions, Tree, Unread, check_links,
-    has_reserved_name, mentions_of, read_tree, site_root_at,
+    Checked, LinkOptions, MentionPlaces, Page, PagesAs, PlannedPage, SearchOptions, Tree, Unread,
+    check_links, has_reserved_name, mentions_of, read_tree, site_root_at, targets_of,
 };
 use relmove_moved::{MadeMoves, StoreBefore, keep_dead_targets};
-use relmove_moving::{NewKind, moving_of, need_writable, whole_moves};
+use relmove_moving::{NewKind, moving_of, need_writable, parts_of, whole_moves};
 use relmove_plan::{NameRule, Plan};
 use relmove_report::report::{
     HELP, USAGE, print_changes, print_dead_link, print_dead_link_as_json, print_end, print_failure,
@@ -334,11 +334,19 @@ fn move_and_print<'m, R: Machine, O: Write, E: Write>(
     let moves = texts_of(alloc, &whole)?;
     let made = made_moves(&store, &tree, &moves, options, errors)?;
     let tree = tree_before(alloc, tree, &made)?;
-    let (moving, counts, status) = plan_any(
-        &mut store, &tree, &moves, &made, options, out, errors,
+    let (mut planned, actions) = plan_any(&mut store, &tree, &moves, &made, options, errors)?;
+    let possible = need_run(&mut store, &tree, actions);
+    let (counts, status) = report_any(
+        &mut store,
+        &tree,
+        &moves,
+        &made,
+        &mut planned,
+        options,
+        out,
+        errors,
     )?;
-    need_writable(&mut store, &tree, &moving.plan)?;
-    need_possible(&mut store, &moving.plan.actions)?;
+    possible?;
     let outcome = print_rest(alloc, root, &near, counts, options, out);
     let status = if near.is_empty() {
         status
@@ -346,6 +354,13 @@ fn move_and_print<'m, R: Machine, O: Write, E: Write>(
         status_without_fault(&near)
     };
     Ok(print_status(outcome, status, out))
+}
+
+// Fails if a run of these actions can't do them, as far as that can be asked before it. The actions, with the new texts of pages,
+// are gone then.
+fn need_run<S: Store>(store: &mut S, tree: &Tree, actions: Actions) -> Result<(), RunFault> {
+    need_writable(store, tree, &actions)?;
+    need_possible(store, &actions)
 }
 
 // Prints the journals of other users near, and in words how much a run would change.
@@ -383,17 +398,19 @@ fn move_and_write<'m, R: Machine, O: Write, E: Write>(
     let moves = texts_of(alloc, &whole)?;
     let made = made_moves(locked.store(), &tree, &moves, options, errors)?;
     let tree = tree_before(alloc, tree, &made)?;
-    let (moving, counts, status) = plan_any(
+    let (mut planned, actions) = plan_any(locked.store(), &tree, &moves, &made, options, errors)?;
+    let done = report_any(
         locked.store(),
         &tree,
         &moves,
         &made,
+        &mut planned,
         options,
         out,
         errors,
     )?;
-    need_writable(locked.store(), &tree, &moving.plan)?;
-    let (pages, actions) = parts_of(moving);
+    need_writable(locked.store(), &tree, &actions)?;
+    let pages = pages_of(planned);
     let Tree {
         pages: read,
         directories,
@@ -411,21 +428,19 @@ fn move_and_write<'m, R: Machine, O: Write, E: Write>(
     } else {
         carry_out(locked, actions, &texts, &directories)
     };
-    let done = (counts, status);
     Ok(print_run(alloc, root, &ended, done, options, out, errors))
 }
 
-// The pages after moves, and the actions of their run.
-fn parts_of(moving: Moving<'_, '_>) -> (Vec<MovedSitePage>, Actions) {
-    let Plan { pages, actions, .. } = moving.plan;
-    (pages, actions)
+// The pages after moves.
+fn pages_of(planned: PlannedMoves<'_, '_>) -> Vec<PlannedPage> {
+    planned.pages
 }
 
 // Pages that were read, with their paths after moves.
 fn at_new_paths(
     alloc: Global,
     mut read: Vec<Page>,
-    pages: &[MovedSitePage],
+    pages: &[PlannedPage],
 ) -> Result<Vec<Page>, AllocError> {
     let mut number = 0usize;
     for page in read.iter_mut() {
@@ -483,22 +498,21 @@ fn refuse_moves<S: Store, E: Write>(
     CallEnd::Status(Status::Refused)
 }
 
-// Plans moves, also those that were made before the call, and prints what they do.
-fn plan_any<'a, 'm, S: Store, O: Write, E: Write>(
+// Plans moves, also those that were made before the call.
+fn plan_any<'a, 'm, S: Store, E: Write>(
     store: &mut S,
     tree: &'a Tree,
     moves: &[(&'m str, &'m str)],
     made: &Option<MadeMoves<'m>>,
     options: MoveOptions<'_>,
-    out: &mut O,
     errors: &mut E,
-) -> Result<(Moving<'a, 'm>, Counts, Status), CallEnd> {
+) -> Result<(PlannedMoves<'a, 'm>, Actions), CallEnd> {
     match made {
         Some(made) => {
             let mut before = StoreBefore::new(store, made);
-            plan(&mut before, tree, moves, Some(made), options, out, errors)
+            plan(&mut before, tree, moves, Some(made), options, errors)
         }
-        None => plan(store, tree, moves, None, options, out, errors),
+        None => plan(store, tree, moves, None, options, errors),
     }
 }
 
@@ -529,29 +543,25 @@ fn with_actions<'a, 'm>(moving: Moving<'a, 'm>, actions: Actions) -> Moving<'a, 
     }
 }
 
-// Plans moves, and prints what they do. Returns the plan, what is counted of it, and the status of a run that does all of
-// it.
-fn plan<'a, 'm, S: Store, O: Write, E: Write>(
+// Plans moves. Returns what they do, and the actions of their run.
+fn plan<'a, 'm, S: Store, E: Write>(
     store: &mut S,
     tree: &'a Tree,
     moves: &[(&'m str, &'m str)],
     made: Option<&MadeMoves<'m>>,
     options: MoveOptions<'_>,
-    out: &mut O,
     errors: &mut E,
-) -> Result<(Moving<'a, 'm>, Counts, Status), CallEnd> {
+) -> Result<(PlannedMoves<'a, 'm>, Actions), CallEnd> {
     let root = need_site_root(store, tree, options.site_root, errors)?;
     let moving = match moving_of(store, tree, &root, options.pages_as, moves, options.rule) {
         Ok(moving) => moving,
         Err(why) => return Err(refuse_moves(store, tree, moves, &why, errors)),
     };
-    let mut moving = match made {
+    let moving = match made {
         Some(made) => moving_now(store, tree, moves, made, moving, errors)?,
         None => moving,
     };
-    empty_new_texts(store.alloc(), &mut moving.plan.pages);
-    let (counts, status) = report(store, tree, moves, &mut moving, options, out, errors)?;
-    Ok((moving, counts, status))
+    Ok(parts_of(store.alloc(), moving)?)
 }
 
 // What moves do that were made before the call: dead targets stay, and of the actions only the new texts of pages are left.
@@ -582,15 +592,6 @@ fn keep_dead<S: Store>(
     keep_dead_targets(store, tree, &moving.shown, &mut moving.plan.pages)
 }
 
-// Empties the new texts of pages. The actions have them too, and of a page only whether it has one is asked after this.
-fn empty_new_texts(alloc: Global, pages: &mut [MovedSitePage]) {
-    for page in pages.iter_mut() {
-        if page.text.is_some() {
-            page.text = Some(String::new(alloc));
-        }
-    }
-}
-
 // The root of the site, by its path from the root. Fails if no directory is there.
 fn need_site_root<S: Store, E: Write>(
     store: &S,
@@ -611,45 +612,76 @@ fn need_site_root<S: Store, E: Write>(
     }
 }
 
+// Prints what moves do, also those that were made before the call. Returns what is counted of it, and the status of a run that
+// does all of it.
+fn report_any<'m, S: Store, O: Write, E: Write>(
+    store: &mut S,
+    tree: &Tree,
+    moves: &[(&'m str, &'m str)],
+    made: &Option<MadeMoves<'m>>,
+    planned: &mut PlannedMoves<'_, 'm>,
+    options: MoveOptions<'_>,
+    out: &mut O,
+    errors: &mut E,
+) -> Result<(Counts, Status), CallEnd> {
+    match made {
+        Some(made) => {
+            let mut before = StoreBefore::new(store, made);
+            report(&mut before, tree, moves, planned, options, out, errors)
+        }
+        None => report(store, tree, moves, planned, options, out, errors),
+    }
+}
+
 // Prints what moves do. Returns what is counted of it, and the status of a run that does all of it.
 fn report<S: Store, O: Write, E: Write>(
     store: &mut S,
     tree: &Tree,
     moves: &[(&str, &str)],
-    moving: &mut Moving<'_, '_>,
+    planned: &mut PlannedMoves<'_, '_>,
     options: MoveOptions<'_>,
     out: &mut O,
     errors: &mut E,
 ) -> Result<(Counts, Status), CallEnd> {
-    let counts = counts_of(store.alloc(), tree, moves, moving, options.made)?;
-    let mentions = asked_mentions(store, tree, moving, options)?;
+    let counts = counts_of(store.alloc(), tree, moves, planned, options.made)?;
+    let mentions = asked_mentions(store, tree, planned, options)?;
     print_unread_files(&mentions.unread, errors);
-    if print_plan(store, tree, moving, &mentions, options, out).is_err() {
+    if print_plan(store, tree, planned, &mentions, options, out).is_err() {
         return Err(CallEnd::Status(Status::Refused));
     }
-    Ok((counts, status_of_moving(tree, moves, moving, &mentions)))
+    Ok((counts, status_of_moving(tree, moves, planned, &mentions)))
 }
 
-// Finds where the old paths of a plan are written, if the call asks for it. Then the edits of its pages are gone that have no
-// new text.
+// Finds where the old paths of moves are written, if the call asks for it. Of the targets only those with a new text are left
+// then.
 fn asked_mentions<S: Store>(
     store: &mut S,
     tree: &Tree,
-    moving: &mut Moving<'_, '_>,
+    planned: &mut PlannedMoves<'_, '_>,
     options: MoveOptions<'_>,
 ) -> Result<MentionPlaces, RunFault> {
-    let plan = &mut moving.plan;
+    let alloc = store.alloc();
     if options.quiet_mentions {
-        return Ok(MentionPlaces::new(store.alloc(), plan.moves.moves())?);
+        return Ok(MentionPlaces::new(alloc, planned.moves.moves())?);
     }
     let options = SearchOptions {
         excluded: options.excluded,
         made: options.made,
-        shown: &moving.shown,
+        shown: &planned.shown,
         site_root: options.site_root,
         pages_as: options.pages_as,
     };
-    mentions_of(store, tree, &plan.moves, &mut plan.pages, options)
+    let targets = targets_of(alloc, tree, &planned.moves, &planned.pages, options)?;
+    forget_kept_targets(alloc, &mut planned.pages)?;
+    mentions_of(store, tree, &planned.moves, &targets, options)
+}
+
+// Forgets the targets of pages that stay.
+fn forget_kept_targets(alloc: Global, pages: &mut [PlannedPage]) -> Result<(), AllocError> {
+    for page in pages.iter_mut() {
+        page.forget_kept_targets(alloc)?;
+    }
+    Ok(())
 }
 
 // The directories below the root that were read, as texts.
@@ -665,11 +697,11 @@ fn directories_of(alloc: Global, read: &[String]) -> Result<Vec<&str>, AllocErro
 fn old_texts<'a>(
     alloc: Global,
     read: &'a [Page],
-    pages: &[MovedSitePage],
+    pages: &[PlannedPage],
 ) -> Result<Vec<PageText<'a>>, AllocError> {
     let mut texts = Vec::new(alloc);
     for (page, new) in read.iter().zip(pages) {
-        if new.text.is_some() {
+        if new.is_changed {
             texts.push(PageText {
                 path: page.path.as_str(),
                 text: page.text.as_str(),
@@ -691,12 +723,12 @@ fn refuse<E: Write>(root: &str, fault: &RunFault, errors: &mut E) -> Status {
 fn status_of_moving(
     tree: &Tree,
     moves: &[(&str, &str)],
-    moving: &Moving<'_, '_>,
+    planned: &PlannedMoves<'_, '_>,
     mentions: &MentionPlaces,
 ) -> Status {
-    let keeps_symlinks = moving.plan.symlinks.is_empty() && moving.lost.is_empty();
+    let keeps_symlinks = planned.symlinks.is_empty() && planned.lost.is_empty();
     let reads_links = moves.is_empty() || tree.not_text.is_empty() && tree.with_base.is_empty();
-    let keeps_links = mentions.places.is_empty() && !moving.left.iter().any(|link| link.leads);
+    let keeps_links = mentions.places.is_empty() && !planned.left.iter().any(|link| link.leads);
     if keeps_symlinks && reads_links && keeps_links {
         Status::Kept
     } else {
@@ -708,17 +740,17 @@ fn status_of_moving(
 fn print_plan<S: Store, O: Write>(
     store: &S,
     tree: &Tree,
-    moving: &Moving<'_, '_>,
+    planned: &PlannedMoves<'_, '_>,
     mentions: &MentionPlaces,
     options: MoveOptions<'_>,
     out: &mut O,
 ) -> io::Result<()> {
-    let moves = moving.plan.moves.moves();
+    let moves = planned.moves.moves();
     if options.json {
-        print_moving_as_json(store.alloc(), out, tree, moving, options.style())?;
+        print_moving_as_json(store.alloc(), out, tree, planned, options.style())?;
         print_mentions_as_json(store.alloc(), out, moves, mentions)?;
     } else {
-        print_moving(out, store, tree, moving, options.style())?;
+        print_moving(out, store, tree, planned, options.style())?;
         print_mentions(out, store.root(), moves, mentions)?;
     }
     out.flush()

@@ -12,7 +12,7 @@
 #![tactic(auto)]
 
 pub use self::destinations::{NewKind, whole_moves};
-pub use self::moving::moving_of;
+pub use self::moving::{moving_of, parts_of};
 pub use self::writable::need_writable;
 
 mod destinations;

@@ -4,11 +4,12 @@ use relative_path::RelativePath;
 use relative_path_links::{Change, Edit, Markdown, MovedSitePage, SitePage, SiteRoot};
 use relative_path_moves::{Move, MoveTableError, TreeMoves};
 use relative_path_places::NormalPath;
-use relmove_findings::{LeftLink, LostSymlink, Moving, WhyLeft, WhyRefused};
+use relmove_actions::Actions;
+use relmove_findings::{LeftLink, LostSymlink, Moving, PlannedMoves, WhyLeft, WhyRefused};
 use relmove_folder::{
-    EntryKind, Page, PagesAs, Positions, Presence, ShownMove, Tree, cannot_read, has_path,
-    has_unread_name, is_directory, is_read_directory, leads_somewhere, normal_text, presence_at,
-    shown_moves,
+    EntryKind, Page, PagesAs, PlannedPage, Positions, Presence, ShownMove, Tree, cannot_read,
+    has_path, has_unread_name, is_directory, is_read_directory, leads_somewhere, normal_text,
+    presence_at, shown_moves,
 };
 use relmove_journal::{JOURNAL, directory_of, join};
 use relmove_plan::{Entry, Kind, NameRule, Plan, Refusal, make_plan};
@@ -49,6 +50,44 @@ pub fn moving_of<'a, 'm, S: Store>(
         lost,
         shown,
     })
+}
+
+/// Returns what moves do to a tree, and the actions of their run. The new texts of the pages are among the actions alone then.
+/// Allocates the list of the pages.
+pub fn parts_of<'a, 'm>(
+    alloc: Global,
+    moving: Moving<'a, 'm>,
+) -> Result<(PlannedMoves<'a, 'm>, Actions), AllocError> {
+    let Moving {
+        plan,
+        left,
+        lost,
+        shown,
+    } = moving;
+    let Plan {
+        moves,
+        pages,
+        symlinks,
+        actions,
+    } = plan;
+    let planned = PlannedMoves {
+        moves,
+        pages: planned_pages(alloc, pages)?,
+        symlinks,
+        left,
+        lost,
+        shown,
+    };
+    Ok((planned, actions))
+}
+
+// The pages of a plan, without their new texts.
+fn planned_pages(alloc: Global, pages: Vec<MovedSitePage>) -> Result<Vec<PlannedPage>, AllocError> {
+    let mut planned = Vec::with_capacity(alloc, pages.len())?;
+    for page in pages {
+        planned.push(PlannedPage::of(page))?;
+    }
+    Ok(planned)
 }
 
 // The moves, as paths.

@@ -1,8 +1,8 @@
 //! Asks whether the caller may change the directories of a run, before the run begins.
 use crate::walk::top_of;
+use relmove_actions::Actions;
 use relmove_folder::{Tree, find, is_directory_entry, known_answer};
 use relmove_journal::{directory_of, join};
-use relmove_plan::Plan;
 use relmove_store::{ROOT_USER, RunFault, Store, SystemCall, fault_of};
 use std::alloc::{AllocError, Global};
 use std::collections::{BTreeMap, BTreeSet};
@@ -14,25 +14,25 @@ const CHANGE_NAMES: u32 = 0o300;
 // What the owner of a directory needs to move it into another directory, as a run does with its own one: to write.
 const MOVE: u32 = 0o200;
 
-/// Fails if the run of a plan changes the names in a directory that is the caller's, or moves such a directory, and the
+/// Fails if the run of these actions changes the names in a directory that is the caller's, or moves such a directory, and the
 /// directory's mode doesn't let its owner do so. Nothing is changed.
 ///
 /// Of other directories the mode alone doesn't say who may change them, and root may change all.
 pub fn need_writable<S: Store>(
     store: &mut S,
     tree: &Tree,
-    plan: &Plan<'_>,
+    actions: &Actions,
 ) -> Result<(), RunFault> {
-    let directories = changed_directories(store.alloc(), plan)?;
+    let directories = changed_directories(store.alloc(), actions)?;
     for directory in &directories {
         need_mode(store, directory.as_str(), CHANGE_NAMES)?;
     }
-    need_movable(store, tree, plan)
+    need_movable(store, tree, actions)
 }
 
-// Fails if the run of a plan moves a directory that is the caller's, and the mode doesn't let its owner do so.
-fn need_movable<S: Store>(store: &mut S, tree: &Tree, plan: &Plan<'_>) -> Result<(), RunFault> {
-    for rename in &plan.actions.staged {
+// Fails if the run of these actions moves a directory that is the caller's, and the mode doesn't let its owner do so.
+fn need_movable<S: Store>(store: &mut S, tree: &Tree, actions: &Actions) -> Result<(), RunFault> {
+    for rename in &actions.staged {
         let from = rename.from.as_str();
         if is_directory_entry(tree, from) {
             need_mode(store, from, MOVE)?;
@@ -67,15 +67,15 @@ fn is_caller<S: Store>(store: &mut S, user: u32) -> Result<bool, RunFault> {
     }
 }
 
-// The directories in which the run of a plan changes names, by their paths before it. The root is the empty path.
-fn changed_directories(alloc: Global, plan: &Plan<'_>) -> Result<BTreeSet<String>, AllocError> {
-    let mut directories = left_directories(alloc, plan)?;
+// The directories in which the run of actions changes names, by their paths before it. The root is the empty path.
+fn changed_directories(alloc: Global, actions: &Actions) -> Result<BTreeSet<String>, AllocError> {
+    let mut directories = left_directories(alloc, actions)?;
     // The run's own directory and its journal.
     directories.insert(String::new(alloc))?;
-    let made = made_directories(alloc, plan)?;
-    let names = names_by_new_path(alloc, plan)?;
-    let old_paths = old_paths_by_name(alloc, plan)?;
-    for rename in &plan.actions.placed {
+    let made = made_directories(alloc, actions)?;
+    let names = names_by_new_path(alloc, actions)?;
+    let old_paths = old_paths_by_name(alloc, actions)?;
+    for rename in &actions.placed {
         let staging = path_before(alloc, &names, directory_of(rename.to.as_str()))?;
         let nearest = nearest_unmade(&made, staging.as_str());
         directories.insert(path_before(alloc, &old_paths, nearest)?)?;
@@ -83,23 +83,23 @@ fn changed_directories(alloc: Global, plan: &Plan<'_>) -> Result<BTreeSet<String
     Ok(directories)
 }
 
-// The directories that something leaves in the run of a plan.
-fn left_directories(alloc: Global, plan: &Plan<'_>) -> Result<BTreeSet<String>, AllocError> {
+// The directories that something leaves in the run of actions.
+fn left_directories(alloc: Global, actions: &Actions) -> Result<BTreeSet<String>, AllocError> {
     let mut directories = BTreeSet::new(alloc);
-    for rename in &plan.actions.staged {
+    for rename in &actions.staged {
         let directory = directory_of(rename.from.as_str());
         directories.insert(String::from_str(alloc, directory)?)?;
     }
     Ok(directories)
 }
 
-// The directories that the run of a plan makes. One in a directory that moves is below that one's staging name.
+// The directories that the run of actions makes. One in a directory that moves is below that one's staging name.
 fn made_directories<'a>(
     alloc: Global,
-    plan: &'a Plan<'_>,
+    actions: &'a Actions,
 ) -> Result<BTreeSet<&'a str>, AllocError> {
     let mut made = BTreeSet::new(alloc);
-    for path in &plan.actions.made {
+    for path in &actions.made {
         made.insert(path.as_str())?;
     }
     Ok(made)
@@ -108,10 +108,10 @@ fn made_directories<'a>(
 // The staging names from which something comes, by the new paths.
 fn names_by_new_path<'a>(
     alloc: Global,
-    plan: &'a Plan<'_>,
+    actions: &'a Actions,
 ) -> Result<BTreeMap<&'a str, &'a str>, AllocError> {
     let mut names = BTreeMap::new(alloc);
-    for rename in &plan.actions.placed {
+    for rename in &actions.placed {
         names.insert(rename.to.as_str(), rename.from.as_str())?;
     }
     Ok(names)
@@ -120,10 +120,10 @@ fn names_by_new_path<'a>(
 // The old paths of what leaves, by the staging names.
 fn old_paths_by_name<'a>(
     alloc: Global,
-    plan: &'a Plan<'_>,
+    actions: &'a Actions,
 ) -> Result<BTreeMap<&'a str, &'a str>, AllocError> {
     let mut old_paths = BTreeMap::new(alloc);
-    for rename in &plan.actions.staged {
+    for rename in &actions.staged {
         old_paths.insert(rename.to.as_str(), rename.from.as_str())?;
     }
     Ok(old_paths)

@@ -1,11 +1,11 @@
 //! What a call that moves files prints.
 use relative_path::RelativePath;
-use relative_path_links::{Change, MovedSitePage, Unchanged};
+use relative_path_links::{Change, Unchanged};
 use relative_path_moves::Move;
-use relmove_findings::{LeftLink, Loss, LostSymlink, Moving, WhyLeft, WhyRefused};
+use relmove_findings::{LeftLink, Loss, LostSymlink, PlannedMoves, WhyLeft, WhyRefused};
 use relmove_folder::{
-    Checked, MOST_PLACES, MentionPlace, MentionPlaces, Page, Position, Positions, Tree,
-    is_directory, shown_path,
+    Checked, MOST_PLACES, MentionPlace, MentionPlaces, Page, PlannedPage, Position, Positions,
+    Tree, is_directory, shown_path,
 };
 use relmove_plan::{Refusal, SymlinkNotice};
 use relmove_run::{Printable, Store};
@@ -78,7 +78,7 @@ pub fn counts_of(
     alloc: Global,
     tree: &Tree,
     moves: &[(&str, &str)],
-    moving: &Moving<'_, '_>,
+    planned: &PlannedMoves<'_, '_>,
     made: bool,
 ) -> Result<Counts, AllocError> {
     let mut directories = 0usize;
@@ -89,15 +89,15 @@ pub fn counts_of(
     }
     Ok(Counts {
         made,
-        pages: changed_page_count(&moving.plan.pages),
+        pages: changed_page_count(&planned.pages),
         files: moves.len().saturating_sub(directories),
         directories,
     })
 }
 
 // Returns how many pages change.
-fn changed_page_count(pages: &[MovedSitePage]) -> usize {
-    pages.iter().filter(|page| page.text.is_some()).count()
+fn changed_page_count(pages: &[PlannedPage]) -> usize {
+    pages.iter().filter(|page| page.is_changed).count()
 }
 
 /// Prints what moves do: the pages that change, the links that no longer lead to their file or may not, and symbolic links.
@@ -105,29 +105,29 @@ pub fn print_moving<W: Write, S: Store>(
     out: &mut W,
     store: &S,
     tree: &Tree,
-    moving: &Moving<'_, '_>,
+    planned: &PlannedMoves<'_, '_>,
     style: Style,
 ) -> io::Result<()> {
     let (alloc, root) = (store.alloc(), store.root());
-    for (page, new) in tree.pages.iter().zip(&moving.plan.pages) {
-        if new.text.is_some() {
+    for (page, new) in tree.pages.iter().zip(&planned.pages) {
+        if new.is_changed {
             print_changed_page(out, root, page.path.as_str(), new)?;
         }
         if style.verbose {
             print_changed_links(out, root, page, new, style)?;
         }
     }
-    for link in &moving.left {
-        let page = printed_path(alloc, moving, style, link.page)?;
+    for link in &planned.left {
+        let page = printed_path(alloc, planned, style, link.page)?;
         print_left_link(out, root, page.as_str(), link)?;
     }
-    for notice in &moving.plan.symlinks {
+    for notice in &planned.symlinks {
         let path = notice.path.as_relative_path().as_str();
-        let path = printed_path(alloc, moving, style, path)?;
+        let path = printed_path(alloc, planned, style, path)?;
         print_notice(out, root, path.as_str(), notice)?;
     }
-    for symlink in &moving.lost {
-        let path = printed_path(alloc, moving, style, symlink.path)?;
+    for symlink in &planned.lost {
+        let path = printed_path(alloc, planned, style, symlink.path)?;
         print_lost_symlink(out, root, path.as_str(), symlink)?;
     }
     Ok(())
@@ -136,15 +136,15 @@ pub fn print_moving<W: Write, S: Store>(
 // The path by which something is named: the one before the moves, unless they were made before the call.
 fn printed_path(
     alloc: Global,
-    moving: &Moving<'_, '_>,
+    planned: &PlannedMoves<'_, '_>,
     style: Style,
     path: &str,
 ) -> Result<String, AllocError> {
-    shown_path(alloc, &moving.plan.moves, style.made, path)
+    shown_path(alloc, &planned.moves, style.made, path)
 }
 
 // The path by which a page is named.
-fn page_path<'a>(page: &'a Page, new: &'a MovedSitePage, style: Style) -> &'a str {
+fn page_path<'a>(page: &'a Page, new: &'a PlannedPage, style: Style) -> &'a str {
     if style.made {
         new.path.as_relative_path().as_str()
     } else {
@@ -157,7 +157,7 @@ fn print_changed_links<'a, W: Write>(
     out: &mut W,
     root: &'a str,
     page: &'a Page,
-    new: &'a MovedSitePage,
+    new: &'a PlannedPage,
     style: Style,
 ) -> io::Result<()> {
     let mut positions = Positions::new(page.text.as_str());
@@ -189,7 +189,7 @@ fn print_changed_page<W: Write>(
     out: &mut W,
     root: &str,
     old: &str,
-    new: &MovedSitePage,
+    new: &PlannedPage,
 ) -> io::Result<()> {
     let links = Counted {
         number: new.edits.iter().filter(|edit| edit.is_new()).count(),
@@ -317,23 +317,23 @@ pub fn print_moving_as_json<W: Write>(
     alloc: Global,
     out: &mut W,
     tree: &Tree,
-    moving: &Moving<'_, '_>,
+    planned: &PlannedMoves<'_, '_>,
     style: Style,
 ) -> io::Result<()> {
-    for (page, new) in tree.pages.iter().zip(&moving.plan.pages) {
+    for (page, new) in tree.pages.iter().zip(&planned.pages) {
         print_changed_links_as_json(alloc, out, page, new, style)?;
     }
-    for link in &moving.left {
-        let page = printed_path(alloc, moving, style, link.page)?;
+    for link in &planned.left {
+        let page = printed_path(alloc, planned, style, link.page)?;
         print_left_link_as_json(alloc, out, page.as_str(), link)?;
     }
-    for notice in &moving.plan.symlinks {
+    for notice in &planned.symlinks {
         let path = notice.path.as_relative_path().as_str();
-        let path = printed_path(alloc, moving, style, path)?;
+        let path = printed_path(alloc, planned, style, path)?;
         print_symlink_as_json(alloc, out, path.as_str(), why_noticed(notice))?;
     }
-    for symlink in &moving.lost {
-        let path = printed_path(alloc, moving, style, symlink.path)?;
+    for symlink in &planned.lost {
+        let path = printed_path(alloc, planned, style, symlink.path)?;
         print_symlink_as_json(alloc, out, path.as_str(), why_lost(symlink.loss))?;
     }
     Ok(())
@@ -344,7 +344,7 @@ fn print_changed_links_as_json<W: Write>(
     alloc: Global,
     out: &mut W,
     page: &Page,
-    new: &MovedSitePage,
+    new: &PlannedPage,
     style: Style,
 ) -> io::Result<()> {
     let mut positions = Positions::new(page.text.as_str());
